@@ -1,0 +1,12 @@
+-- The laws of the register, for any order.
+pub mod Word
+pub mod Dot
+pub mod Windows
+pub mod Recurrence
+pub mod Orbit
+pub mod Correlation
+pub mod Judged
+pub mod Certificate
+pub mod Playing
+pub mod Numbers
+mod Defaults

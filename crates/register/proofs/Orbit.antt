@@ -1,0 +1,130 @@
+-- The windows of a register with tap 0 set: none is 0, and while it has not come back to all ones no two are the same. So it comes back
+-- after P steps at the latest, and where it does so first after P, a period meets every nonzero window exactly once. Assumes nothing.
+use mathlib.Core.Path.{_≡_, refl, sym, ap, _∙_}
+use Prim.Native.Nat.{ℕ, zero, suc, _+_, _-_, _*_, _/_, _%_, _^_, _≤_, _<_}
+use native.Mathlib.Nat.{le-of-suc-le-suc, suc-add, zero-add, zero-mul, suc-mul, add-assoc, add-zero}
+use native.Mathlib.Decide.{decLt}
+use native.Mathlib.Omega.{arith}
+use lib.IntN.{ℤ, _+ℤ_}
+use lib.Pow.{pow-pos, pow-lt, suc-ones}
+use Rattle.sums.specs.Sum.{sum}
+use Rattle.sums.proofs.Sum.{sum-front}
+use Rattle.sums.proofs.Perm.{Permutes, sum-perm, hits}
+use Rattle.register.specs.Register.{step, window, bit, Tapped, Maximal, P}
+use Rattle.register.proofs.Dot.{dot-zero, dot-comm}
+use Rattle.register.proofs.Windows.{step-inj, window-lt}
+
+step-zero : (N taps : ℕ) → step N taps 0 ≡ 0
+unfolding step
+step-zero N taps = ap (λ (d : ℕ). (0 + d * 2 ^ N) / 2) (dot-comm taps 0 ∙ dot-zero taps) ∙ ap (λ (x : ℕ). (0 + x) / 2) (zero-mul (2 ^ N))
+
+module _ (N taps : ℕ) (t : Tapped N taps) where
+  -- two windows that are the same were the same at the start
+  pub back : (i d : ℕ) → window N taps i ≡ window N taps (i + d) → window N taps d ≡ P N
+  unfolding window
+  back zero d h = ap (window N taps) (sym (zero-add d)) ∙ sym h
+  back (suc i) d h =
+      back i d
+      (step-inj N taps (window N taps i) (window N taps (i + d)) t
+      (window-lt N taps i) (window-lt N taps (i + d)) (h ∙ ap (window N taps) (suc-add i d)))
+
+  -- a window that is not 0 never becomes 0
+  pub step-pos : (w : ℕ) → w < 2 ^ N → step N taps w ≡ 0 → w ≡ 0
+  step-pos w l h = step-inj N taps w 0 t l (pow-pos N) (h ∙ sym (step-zero N taps))
+
+  pub window-pos : (k : ℕ) → window N taps k ≡ 0 → ⊥
+  unfolding window
+  window-pos zero h = omega (arith, pow-lt (t .some))
+  window-pos (suc k) h = window-pos k (step-pos (window N taps k) (window-lt N taps k) h)
+
+  -- ---- while it has not come back
+
+  module _ (away : (k : ℕ) → 0 < k → k < P N → window N taps k ≡ P N → ⊥) where
+    later : (i j : ℕ) → i < j → j < P N → window N taps i ≡ window N taps j → ⊥
+    later i j l h e =
+        let s : j ≡ i + (j - i) = omega arith in
+        away (j - i) (omega arith) (omega arith) (back i (j - i) (e ∙ ap (window N taps) s))
+
+    pub distinct : (i j : ℕ) → i < P N → j < P N → window N taps i ≡ window N taps j → i ≡ j
+    distinct i j hi hj e = elim (decLt i j) [
+      | yes l ↦ absurd (later i j l hj e)
+      | no a ↦ elim (decLt j i) [ yes l ↦ absurd (later j i l hi (sym e)) | no b ↦ omega arith ]
+    ]
+
+    -- 0, and then the windows in their order
+    visit : ℕ → ℕ
+    visit zero = 0
+    visit (suc j) = window N taps j
+
+    visit-lt : (j : ℕ) → visit j < 2 ^ N
+    unfolding visit
+    visit-lt zero = pow-pos N
+    visit-lt (suc j) = window-lt N taps j
+
+    visit-apart : (i j : ℕ) → i < 2 ^ N → j < 2 ^ N → visit i ≡ visit j → i ≡ j
+    unfolding visit
+    visit-apart zero zero hi hj e = refl
+    visit-apart zero (suc j) hi hj e = absurd (window-pos j (sym e))
+    visit-apart (suc i) zero hi hj e = absurd (window-pos i e)
+    visit-apart (suc i) (suc j) hi hj e = ap suc (distinct i j (omega arith) (omega arith) e)
+
+    visits : Permutes (2 ^ N) visit
+    visits = record { within = λ j _. visit-lt j; apart = visit-apart }
+
+    -- every window but 0 is met
+    pub met : (w : ℕ) → 0 < w → w < 2 ^ N → (j : ℕ) × (j < P N) × (window N taps j ≡ w)
+    unfolding visit
+    met w p l = go (hits (2 ^ N) visit visits w l)
+      where
+        found : (j : ℕ) → j < 2 ^ N → visit j ≡ w → (j : ℕ) × (j < P N) × (window N taps j ≡ w)
+        found zero h e = absurd (omega arith)
+        found (suc j) h e = (j, omega arith, e)
+
+        go : (j : ℕ) × (j < 2 ^ N) × (visit j ≡ w) → (j : ℕ) × (j < P N) × (window N taps j ≡ w)
+        go f = found (f .0) (f .1) (f .2)
+
+    -- a sum over the windows goes once over every number below 2 ^ N but 0
+    pub once-each : (f : ℕ → ℤ) → f 0 +ℤ sum (P N) (λ j. f (window N taps j)) ≡ sum (2 ^ N) f
+    unfolding visit
+    once-each f =
+        sym (sum-front (P N) (λ j. f (visit j)))
+        ∙ ap (λ (k : ℕ). sum k (λ j. f (visit j))) (suc-ones N)
+        ∙ sum-perm (2 ^ N) f visit visits
+
+    -- and the next step comes back
+    pub comes-back : window N taps (P N) ≡ P N
+    unfolding window
+    comes-back = go (met (window N taps (P N)) (positive (window N taps (P N)) (window-pos (P N))) (window-lt N taps (P N)))
+      where
+        positive : (w : ℕ) → (w ≡ 0 → ⊥) → 0 < w
+        positive w h = omega arith
+
+        at : (j : ℕ) → j < P N → window N taps j ≡ window N taps (P N) → window N taps (P N) ≡ P N
+        at zero l e = sym e
+        at (suc j) l e =
+            let s : P N ≡ suc j + (P N - suc j) = omega arith in
+            absurd (away (P N - suc j) (omega arith) (omega arith) (back (suc j) (P N - suc j) (e ∙ ap (window N taps) s)))
+
+        go : (j : ℕ) × (j < P N) × (window N taps j ≡ window N taps (P N)) → window N taps (P N) ≡ P N
+        go f = at (f .0) (f .1) (f .2)
+
+  -- ---- a maximal register
+
+  module _ (m : Maximal N taps) where
+    pub met-once : (w : ℕ) → 0 < w → w < 2 ^ N
+        → (j : ℕ) × (j < P N) × (window N taps j ≡ w) × ((i : ℕ) → i < P N → window N taps i ≡ w → i ≡ j)
+    met-once w p l =
+        let f = met (m .first) w p l in
+        (f .0, f .1, f .2, λ i h e. distinct (m .first) i (f .0) h (f .1) (e ∙ sym (f .2)))
+
+    pub window-period : (k : ℕ) → window N taps (k + P N) ≡ window N taps k
+    unfolding window
+    window-period zero = ap (window N taps) (zero-add (P N)) ∙ m .returns
+    window-period (suc k) = ap (window N taps) (suc-add k (P N)) ∙ ap (step N taps) (window-period k)
+
+    -- places count modulo the period
+    pub window-rounds : (m k : ℕ) → window N taps (k + m * P N) ≡ window N taps k
+    window-rounds zero k = ap (window N taps) (ap (λ (a : ℕ). k + a) (zero-mul (P N)) ∙ add-zero k)
+    window-rounds (suc m) k =
+        ap (window N taps) (ap (λ (a : ℕ). k + a) (suc-mul m (P N)) ∙ sym (add-assoc k (m * P N) (P N)))
+        ∙ window-period (k + m * P N) ∙ window-rounds m k

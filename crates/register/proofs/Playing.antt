@@ -1,0 +1,79 @@
+-- A new player's window, sign and count after k steps are those of place k, the count modulo 2^32, for any taps with tap 0 set, maximal or
+-- not. The count modulo P is not the place once it has wrapped: at order 3, after 2^32 steps, it says 0 and the place is 4. Assumes nothing.
+use mathlib.Core.Path.{_≡_, refl, sym, ap, ap₂, _∙_}
+use mathlib.Core.List.{[], _∷_}
+use Prim.Native.Nat.{ℕ, zero, suc, _+_, _*_, _%_, _^_, _<_}
+use native.Mathlib.Nat.{mod-eq-of-lt, mod-add-mod}
+use native.Mathlib.Numerals.{add-one}
+use native.Mathlib.Omega.{arith}
+use borrow.Author.Tests.{ne-eqb, lt-leb}
+use lib.Count.{ones}
+use Rattle.sums.specs.Refusals.{first}
+use Rattle.sums.proofs.First.{passed-first}
+use Rattle.register.specs.Register.{dot, step, window, wave, bit, P, Shaped, Generator}
+use Rattle.register.specs.Calls.{shapeChecks, stepChecks, windowOut, onward, freshPlayer, newOutcome, stepOutcome}
+use Rattle.register.specs.declared.Player.{Player}
+use Rattle.register.specs.declared.NewPlayer.the-variants.{Ready}
+use Rattle.register.specs.declared.Tick.the-variants.{Sign}
+use Rattle.register.proofs.Windows.{window-lt}
+use Rattle.register.proofs.Orbit.{window-pos, window-rounds}
+use Rattle.register.proofs.Judged.{passes-shape}
+use Rattle.register.proofs.Certificate.{certify}
+
+-- ---- the count
+
+pub after-largest : onward 4294967295 ≡ 0
+after-largest = refl
+
+pub by-one : (count : ℕ) → count < 4294967295 → onward count ≡ count + 1
+by-one count h = mod-eq-of-lt {m = 2 ^ 32} (omega arith)
+
+-- ---- the player after k steps of a new one
+
+pub played : ℕ → ℕ → ℕ → Player
+played N taps zero = freshPlayer N taps
+played N taps (suc k) = stepOutcome (played N taps k) .player
+
+-- the player of place k
+abbrev pub placed : ℕ → ℕ → ℕ → Player
+placed N taps k = record { order = N; taps = taps; window = window N taps k; count = k % 2 ^ 32 }
+
+module _ (N taps : ℕ) (s : Shaped N taps) where
+  pub made : newOutcome N taps ≡ Ready (freshPlayer N taps)
+  unfolding newOutcome
+  made = rw (passes-shape N taps s)
+
+  goes : (k : ℕ) → first (stepChecks (placed N taps k)) ≡ 0
+  goes k =
+      passed-first (shapeChecks N taps) ((16, windowOut N (window N taps k)) ∷ []) tt (passes-shape N taps s)
+      ∙ simp (ne-eqb (window N taps k) 0 (window-pos N taps (s .tapped) k), lt-leb (2 ^ N) (window N taps k) (window-lt N taps k))
+
+  -- a step from place k gives the sign of place k, and leads to place k + 1
+  pub gives : (k : ℕ) → stepOutcome (placed N taps k) .tick ≡ Sign (wave N taps k)
+  unfolding stepOutcome wave bit
+  gives k = rw (goes k)
+
+  leads : (k : ℕ) → stepOutcome (placed N taps k) .player ≡ placed N taps (suc k)
+  unfolding stepOutcome window
+  leads k = rw (goes k) (ap (λ n. record { order = N; taps = taps; window = window N taps (suc k); count = n }) (mod-add-mod k (2 ^ 32) 1 ∙ ap (λ n. n % 2 ^ 32) (add-one k)))
+
+  pub place : (k : ℕ) → played N taps k ≡ placed N taps k
+  unfolding played window
+  place zero = refl
+  place (suc k) = ap (λ p. stepOutcome p .player) (place k) ∙ leads k
+
+  pub sign-at : (k : ℕ) → stepOutcome (played N taps k) .tick ≡ Sign (wave N taps k)
+  sign-at k = ap (λ p. stepOutcome p .tick) (place k) ∙ gives k
+
+-- ---- the count is not the place
+
+here : (bit 3 3 4 ≡ 0) × (bit 3 3 0 ≡ 1)
+unfolding bit window step dot ones
+here = (refl, refl)
+
+-- at order 3, taps 3, the count that says 0 after 2^32 steps stands at place 4, where another bit goes out
+pub count-misleads : (bit 3 3 (2 ^ 32) ≡ 0) × (bit 3 3 (2 ^ 32 % 2 ^ 32 % P 3) ≡ 1)
+unfolding bit
+count-misleads =
+    let g : Generator 3 3 = certify 3 3 tt in
+    (ap (λ w. w % 2) (window-rounds 3 3 (g .tapped) (g .maximal) 613566756 4) ∙ here .0, here .1)

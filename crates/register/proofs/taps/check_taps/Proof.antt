@@ -1,0 +1,67 @@
+-- `register::taps::check_taps` meets its contract: the checks 1, 2 and 3 are another function's, and the period decides the fourth.
+-- Assumes nothing.
+use borrow.Author.Needs.{needs}
+use borrow.Author.Tests.{eq-eqb, ne-eqb}
+use mathlib.Core.Path.{_≡_, sym, _∙_}
+use mathlib.Core.List.{[], _∷_}
+use Prim.Native.Nat.{ℕ, _≤_}
+use Rattle.sums.specs.Refusals.{first}
+use Rattle.sums.proofs.First.{refused-first, passed-first}
+use Rattle.register.specs.Register.{P, period}
+use Rattle.register.specs.Calls.{shapeChecks, notMaximal, tapsAnswer}
+use Rattle.register.proofs.Judged.{shaped}
+use Rattle.register.proofs.taps.check_taps.Statement.{statement}
+use Rattle.register.proofs.taps.check_taps.Tie as tie
+
+check-shape-requires : tie.Need-check-shape-requires
+check-shape-requires c κs = search needs
+
+returns : tie.Need-returns
+unfolding tapsAnswer
+returns c =
+    let a = c .before .before .args in
+    let e = c .before .check-shape .ensures in
+    e ∙ sym (refused-first (shapeChecks (a .order) (a .taps)) ((4, notMaximal (a .order) (a .taps)) ∷ []) (λ z. c .if1 .taken (e ∙ z)))
+
+passed : (c : tie.Else1) → first (shapeChecks (c .before .before .args .order) (c .before .before .args .taps)) ≡ 0
+passed c = sym (c .before .check-shape .ensures) ∙ c .if1 .left
+
+small : (c : tie.Else1) → c .before .before .args .order ≤ 16
+small c = shaped (c .before .before .args .order) (c .before .before .args .taps) (passed c) .most
+
+period-requires : tie.Need-period-requires
+period-requires c κs = small c
+
+full-period-requires : tie.Need-full-period-requires
+full-period-requires c κs = small (c .before)
+
+-- what the fourth check leaves to say
+fourth : (c : tie.Else1) → tapsAnswer (c .before .before .args .order) (c .before .before .args .taps)
+    ≡ first ((4, notMaximal (c .before .before .args .order) (c .before .before .args .taps)) ∷ [])
+unfolding tapsAnswer
+fourth c = let a = c .before .before .args in passed-first (shapeChecks (a .order) (a .taps)) ((4, notMaximal (a .order) (a .taps)) ∷ []) tt (passed c)
+
+returns-2 : tie.Need-returns-2
+returns-2 c =
+    let a = c .before .before .before .before .before .args in
+    let p = c .before .before .period .ensures in
+    let f = c .before .full-period .ensures in
+    sym (fourth (c .before .before .before) ∙ simp (ne-eqb (period (a .order) (a .taps)) (P (a .order)) (λ e. c .if2 .taken (p ∙ e ∙ sym f))))
+
+returns-3 : tie.Need-returns-3
+returns-3 c =
+    let a = c .before .before .before .before .before .args in
+    let p = c .before .before .period .ensures in
+    let f = c .before .full-period .ensures in
+    sym (fourth (c .before .before .before) ∙ simp (eq-eqb (period (a .order) (a .taps)) (P (a .order)) (sym p ∙ c .if2 .left ∙ f)))
+
+pub check-taps-spec : {M : Type 1} → statement M
+check-taps-spec =
+    tie.close
+    (tie.spec
+    check-shape-requires
+    returns
+    period-requires
+    full-period-requires
+    returns-2
+    returns-3)

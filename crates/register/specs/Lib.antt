@@ -1,0 +1,3 @@
+-- What a reader must believe of the register.
+pub mod Register
+pub mod Calls

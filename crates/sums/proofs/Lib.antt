@@ -1,0 +1,11 @@
+-- The laws, from simple to strong.
+pub mod Diff
+pub mod Ring
+pub mod Bound
+pub mod Sum
+pub mod Sign
+pub mod Perm
+pub mod Places
+pub mod Tables
+pub mod First
+pub mod Seek

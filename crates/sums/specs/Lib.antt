@@ -1,0 +1,4 @@
+-- What the definitions of every crate are written with.
+pub mod Sum
+pub mod Lists
+pub mod Refusals

@@ -1,0 +1,24 @@
+-- Lists by their places: what a lent slice holds. Assumes nothing.
+use Prim.Native.Nat.{ℕ, zero, suc}
+use mathlib.Core.List.{List, [], _∷_, _++_}
+use mathlib.Core.Bool.{Bool, cond}
+use lib.IntN.{ℤ, pos}
+use lib.ListN.{length, getD, drop}
+
+-- the number of y at place j, and 0 past its end
+abbrev pub at : List ℤ → ℕ → ℤ
+at y j = getD y j (pos 0)
+
+-- f 0, …, f (n - 1)
+unfoldable pub table : {A : Type 0} → ℕ → (ℕ → A) → List A
+table zero f = []
+table (suc n) f = f 0 ∷ table n (λ i. f (suc i))
+
+-- vs in the place of the first of l: a longer l keeps its tail
+unfoldable pub put : {A : Type 0} → List A → List A → List A
+put vs l = vs ++ drop (length vs) l
+
+-- the first of the n places from k on at which the test holds, and k + n where it holds at none
+unfoldable pub seek : (ℕ → Bool) → ℕ → ℕ → ℕ
+seek test zero k = k
+seek test (suc n) k = cond (test k) k (seek test n (suc k))
