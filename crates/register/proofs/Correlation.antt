@@ -1,22 +1,23 @@
 -- The signal of a maximal register: over a period it sums to -1, (P+1)/2 of its bits are ones, and its autocorrelation is P at shift 0
 -- and -1 at every other shift up to P-1, indices counted modulo P. Assumes nothing.
 use mathlib.Core.Path.{_≡_, refl, sym, ap, ap₂, _∙_}
-use Prim.Native.Nat.{ℕ, zero, suc, _+_, _*_, _/_, _%_, _^_, _<_, min}
+use Prim.Native.Nat.{ℕ, zero, suc, _+_, _-_, _*_, _/_, _%_, _^_, _<_, min}
 use native.Mathlib.Nat.{add-zero, add-comm, mul-comm, pow-suc, mod-lt, mod-eq-of-lt, div-add-mod', zero-lt-suc}
 use native.Mathlib.Omega.{arith}
 use lib.Bits.{bitXor, xor-lt, xor-add-and, and-le-l, and-le-r}
 use lib.IntN.{ℤ, pos, negsuc, negℤ, _+ℤ_, _*ℤ_, +ℤ-invr}
-use lib.Pow.{pow-lt, suc-ones}
+use lib.Pow.{pow-pos, pow-lt}
 use Rattle.sums.specs.Sum.{sum, total, sign}
 use Rattle.sums.proofs.Diff.{parts, diffs, ints}
 use Rattle.sums.proofs.Ring.{neg-*ℤ, one-*ℤ}
+use Rattle.sums.proofs.Perm.{Visits}
 use Rattle.sums.proofs.Sign.{sign-+, sign-mod, sign-sq, sign-bit}
 use Rattle.sums.proofs.Sum.{sum-ext, sum-one, sum-+, sum-sub, sum-scale, sum-pairs, pos-total}
 use Rattle.register.specs.Register.{bitOf, dot, window, bit, wave, tag, Tapped, Maximal, Generator, P}
 use Rattle.register.proofs.Dot.{dot-step, dot-xor, dot-zero, dot-comm, dot-double}
-use Rattle.register.proofs.Windows.{window-lt, tag-lt, ahead}
+use Rattle.register.proofs.Windows.{window-lt, step-inj, tag-lt, ahead}
 use Rattle.register.proofs.Recurrence.{bit-zero, bit-suc, window-bit}
-use Rattle.register.proofs.Orbit.{distinct, window-rounds, once-each}
+use Rattle.register.proofs.Orbit.{distinct, window-pos, window-rounds, once-each}
 
 -- ---- the signs of a number's parities
 
@@ -92,14 +93,49 @@ module _ (N taps : ℕ) (g : Generator N taps) where
       (sym (window-rounds N taps (g .tapped) (g .maximal) (k / P N) (k % P N))
       ∙ ap (window N taps) (add-comm (k % P N) (k / P N * P N) ∙ div-add-mod' k (P N)))
 
-  -- tags that are the same tell windows that are the same
-  pub tags-differ : (a b : ℕ) → a < P N → b < P N → tag N taps a ≡ tag N taps b → a ≡ b
-  tags-differ a b ha hb e =
-      distinct N taps (g .tapped) (g .maximal .first) a b ha hb
-      (bits-ext N (window N taps a) (window N taps b) (window-lt N taps a) (window-lt N taps b)
+  -- tags that are the same tell windows that are the same, and no tag is 0
+  same-window : (a b : ℕ) → tag N taps a ≡ tag N taps b → window N taps a ≡ window N taps b
+  same-window a b e =
+      bits-ext N (window N taps a) (window N taps b) (window-lt N taps a) (window-lt N taps b)
       (λ i k. window-bit N taps i a k ∙ ap (bit N taps) (add-comm a i) ∙ ahead N taps (g .tapped) a i
       ∙ ap (λ (z : ℕ). dot z (window N taps i)) e
-      ∙ sym (window-bit N taps i b k ∙ ap (bit N taps) (add-comm b i) ∙ ahead N taps (g .tapped) b i)))
+      ∙ sym (window-bit N taps i b k ∙ ap (bit N taps) (add-comm b i) ∙ ahead N taps (g .tapped) b i))
+
+  tag-pos : (m : ℕ) → tag N taps m ≡ 0 → ⊥
+  tag-pos m e =
+      window-pos N taps (g .tapped) m
+      (bits-ext N (window N taps m) 0 (window-lt N taps m) (pow-pos N)
+      (λ i k. window-bit N taps i m k ∙ ap (bit N taps) (add-comm m i) ∙ ahead N taps (g .tapped) m i
+      ∙ ap (λ (z : ℕ). dot z (window N taps i)) e ∙ dot-zero (window N taps i)
+      ∙ sym (bit-none i)))
+    where
+      bit-none : (i : ℕ) → bitOf 0 i ≡ 0
+      bit-none zero = refl
+      bit-none (suc i) = bit-suc 0 i ∙ bit-none i
+
+  pub tags-differ : (a b : ℕ) → a < P N → b < P N → tag N taps a ≡ tag N taps b → a ≡ b
+  tags-differ a b ha hb e = distinct N taps (g .tapped) (g .maximal .first) a b ha hb (same-window a b e)
+
+  -- the tags of the delays P, P - 1, …, 1 are each nonzero number once
+  pub tags-visit : Visits (P N) (λ i. tag N taps (P N - i))
+  unfolding window
+  tags-visit =
+      record {
+        low = λ i _. let n = tag-pos (P N - i) in omega arith;
+        high = λ i _. omega (arith, tag-lt N taps (g .tapped) (P N - i));
+        apart = λ i j hi hj e. apart i j hi hj (same-window (P N - i) (P N - j) e);
+      }
+    where
+      apart : (i j : ℕ) → i < P N → j < P N → window N taps (P N - i) ≡ window N taps (P N - j) → i ≡ j
+      apart i j hi hj e =
+          let a : P N - i ≡ suc (P N - suc i) = omega arith in
+          let b : P N - j ≡ suc (P N - suc j) = omega arith in
+          let f =
+            step-inj N taps (window N taps (P N - suc i)) (window N taps (P N - suc j)) (g .tapped)
+            (window-lt N taps (P N - suc i)) (window-lt N taps (P N - suc j))
+            (ap (window N taps) (sym a) ∙ e ∙ ap (window N taps) b) in
+          let s = distinct N taps (g .tapped) (g .maximal .first) (P N - suc i) (P N - suc j) (omega arith) (omega arith) f in
+          omega arith
 
   pub sum-wave : sum (P N) (wave N taps) ≡ negsuc 0
   unfolding tag

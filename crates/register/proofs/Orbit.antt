@@ -9,7 +9,7 @@ use lib.IntN.{ℤ, _+ℤ_}
 use lib.Pow.{pow-pos, pow-lt, suc-ones}
 use Rattle.sums.specs.Sum.{sum}
 use Rattle.sums.proofs.Sum.{sum-front}
-use Rattle.sums.proofs.Perm.{Permutes, sum-perm, hits}
+use Rattle.sums.proofs.Perm.{Visits, sum-visits, visits-all}
 use Rattle.register.specs.Register.{step, window, bit, Tapped, Maximal, P}
 use Rattle.register.proofs.Dot.{dot-zero, dot-comm}
 use Rattle.register.proofs.Windows.{step-inj, window-lt}
@@ -37,6 +37,9 @@ module _ (N taps : ℕ) (t : Tapped N taps) where
   window-pos zero h = omega (arith, pow-lt (t .some))
   window-pos (suc k) h = window-pos k (step-pos (window N taps k) (window-lt N taps k) h)
 
+  pub window-some : (k : ℕ) → 0 < window N taps k
+  window-some k = let n = window-pos k in omega arith
+
   -- ---- while it has not come back
 
   module _ (away : (k : ℕ) → 0 < k → k < P N → window N taps k ≡ P N → ⊥) where
@@ -51,54 +54,21 @@ module _ (N taps : ℕ) (t : Tapped N taps) where
       | no a ↦ elim (decLt j i) [ yes l ↦ absurd (later j i l hi (sym e)) | no b ↦ omega arith ]
     ]
 
-    -- 0, and then the windows in their order
-    visit : ℕ → ℕ
-    visit zero = 0
-    visit (suc j) = window N taps j
-
-    visit-lt : (j : ℕ) → visit j < 2 ^ N
-    unfolding visit
-    visit-lt zero = pow-pos N
-    visit-lt (suc j) = window-lt N taps j
-
-    visit-apart : (i j : ℕ) → i < 2 ^ N → j < 2 ^ N → visit i ≡ visit j → i ≡ j
-    unfolding visit
-    visit-apart zero zero hi hj e = refl
-    visit-apart zero (suc j) hi hj e = absurd (window-pos j (sym e))
-    visit-apart (suc i) zero hi hj e = absurd (window-pos i e)
-    visit-apart (suc i) (suc j) hi hj e = ap suc (distinct i j (omega arith) (omega arith) e)
-
-    visits : Permutes (2 ^ N) visit
-    visits = record { within = λ j _. visit-lt j; apart = visit-apart }
-
-    -- every window but 0 is met
-    pub met : (w : ℕ) → 0 < w → w < 2 ^ N → (j : ℕ) × (j < P N) × (window N taps j ≡ w)
-    unfolding visit
-    met w p l = go (hits (2 ^ N) visit visits w l)
-      where
-        found : (j : ℕ) → j < 2 ^ N → visit j ≡ w → (j : ℕ) × (j < P N) × (window N taps j ≡ w)
-        found zero h e = absurd (omega arith)
-        found (suc j) h e = (j, omega arith, e)
-
-        go : (j : ℕ) × (j < 2 ^ N) × (visit j ≡ w) → (j : ℕ) × (j < P N) × (window N taps j ≡ w)
-        go f = found (f .0) (f .1) (f .2)
+    pub visits : Visits (P N) (window N taps)
+    visits = record { low = λ j _. window-some j; high = λ j _. omega (arith, window-lt N taps j); apart = distinct }
 
     -- a sum over the windows goes once over every number below 2 ^ N but 0
     pub once-each : (f : ℕ → ℤ) → f 0 +ℤ sum (P N) (λ j. f (window N taps j)) ≡ sum (2 ^ N) f
-    unfolding visit
     once-each f =
-        sym (sum-front (P N) (λ j. f (visit j)))
-        ∙ ap (λ (k : ℕ). sum k (λ j. f (visit j))) (suc-ones N)
-        ∙ sum-perm (2 ^ N) f visit visits
+        ap (λ (z : ℤ). f 0 +ℤ z) (sum-visits (P N) (window N taps) visits f)
+        ∙ sym (sum-front (P N) f)
+        ∙ ap (λ (k : ℕ). sum k f) (suc-ones N)
 
     -- and the next step comes back
     pub comes-back : window N taps (P N) ≡ P N
     unfolding window
-    comes-back = go (met (window N taps (P N)) (positive (window N taps (P N)) (window-pos (P N))) (window-lt N taps (P N)))
+    comes-back = go (visits-all (P N) (window N taps) visits (window N taps (P N)) (window-some (P N)) (omega (arith, window-lt N taps (P N))))
       where
-        positive : (w : ℕ) → (w ≡ 0 → ⊥) → 0 < w
-        positive w h = omega arith
-
         at : (j : ℕ) → j < P N → window N taps j ≡ window N taps (P N) → window N taps (P N) ≡ P N
         at zero l e = sym e
         at (suc j) l e =
@@ -114,7 +84,7 @@ module _ (N taps : ℕ) (t : Tapped N taps) where
     pub met-once : (w : ℕ) → 0 < w → w < 2 ^ N
         → (j : ℕ) × (j < P N) × (window N taps j ≡ w) × ((i : ℕ) → i < P N → window N taps i ≡ w → i ≡ j)
     met-once w p l =
-        let f = met (m .first) w p l in
+        let f = visits-all (P N) (window N taps) (visits (m .first)) w p (omega arith) in
         (f .0, f .1, f .2, λ i h e. distinct (m .first) i (f .0) h (f .1) (e ∙ sym (f .2)))
 
     pub window-period : (k : ℕ) → window N taps (k + P N) ≡ window N taps k

@@ -82,6 +82,11 @@ module _ (N taps : ℕ) (t : Tapped N taps) where
   tag-lt zero = omega (arith, halves N (t .some), pow-pos (N - 1))
   tag-lt (suc m) = tag-step-lt N taps (tag N taps m) (t .fits) (tag-lt m)
 
+  -- one step longer
+  pub tag-next : {m n l r : ℕ} → l ≡ tag N taps m → n ≡ suc m → r ≡ tag-step N taps l → r ≡ tag N taps n
+  unfolding tag
+  tag-next e n h = h ∙ ap (tag-step N taps) e ∙ ap (tag N taps) (sym n)
+
   -- the bit m steps ahead, from the window as it is now
   pub ahead : (m j : ℕ) → bit N taps (j + m) ≡ dot (tag N taps m) (window N taps j)
   unfolding bit tag window

@@ -9,3 +9,4 @@ pub mod Places
 pub mod Tables
 pub mod First
 pub mod Seek
+pub mod Somewhere

@@ -124,11 +124,28 @@ hits n g P w h = ⊎-elim (λ f. f) (λ f. absurd (none f)) (find n g w)
         let z : _≡_ {A = ℕ} 0 1 = ap natAbs (sym (sum-zero n) ∙ sum-ext n (λ j k. sym (ap (λ d. d *ℤ pos 1) (delta-other w (g j) (f j k)))) ∙ sum-perm n (λ j. delta w j *ℤ pos 1) g P ∙ sum-delta n w (λ j. pos 1) h) in
         omega arith
 
--- a walk that is each time at another of the numbers 1 to n is at all of them, as a register's windows are
-pub sum-visits : (n : ℕ) (f : ℕ → ℤ) (W : ℕ → ℕ) → ((j : ℕ) → j < n → 0 < W j) → ((j : ℕ) → j < n → W j ≤ n)
-    → ((i j : ℕ) → i < n → j < n → W i ≡ W j → i ≡ j) → sum n (λ j. f (W j)) ≡ sum n (λ i. f (suc i))
-sum-visits n f W low high apart =
-    sum-ext n (λ j h. ap f (sym (suc-pred-eq-of-pos (low j h)))) ∙ sum-perm n (λ i. f (suc i)) (λ j. pred (W j)) (record {
-      within = λ j h. let l = low j h in let k = high j h in omega arith;
-      apart = λ i j h k e. let l = low i h in let m = low j k in apart i j h k (sym (suc-pred-eq-of-pos l) ∙ ap suc e ∙ suc-pred-eq-of-pos m);
-    })
+-- ---- a walk that is each time at another of the numbers 1 to n is at all of them, as a register's windows are
+
+pub record Visits (n : ℕ) (W : ℕ → ℕ) : Type 0 where
+  pub low : (j : ℕ) → j < n → 0 < W j
+  pub high : (j : ℕ) → j < n → W j ≤ n
+  pub apart : (i j : ℕ) → i < n → j < n → W i ≡ W j → i ≡ j
+
+module _ (n : ℕ) (W : ℕ → ℕ) (v : Visits n W) where
+  from-zero : Permutes n (λ j. pred (W j))
+  from-zero =
+      record {
+        within = λ j h. let l = v .low j h in let k = v .high j h in omega arith;
+        apart =
+            λ i j h k e.
+            v .apart i j h k (sym (suc-pred-eq-of-pos (v .low i h)) ∙ ap suc e ∙ suc-pred-eq-of-pos (v .low j k));
+      }
+
+  pub sum-visits : (f : ℕ → ℤ) → sum n (λ j. f (W j)) ≡ sum n (λ i. f (suc i))
+  sum-visits f =
+      sum-ext n (λ j h. ap f (sym (suc-pred-eq-of-pos (v .low j h)))) ∙ sum-perm n (λ i. f (suc i)) (λ j. pred (W j)) from-zero
+
+  pub visits-all : (w : ℕ) → 0 < w → w ≤ n → (j : ℕ) × (j < n) × (W j ≡ w)
+  visits-all w p l =
+      let f = hits n (λ j. pred (W j)) from-zero (pred w) (omega arith) in
+      (f .0, f .1, sym (suc-pred-eq-of-pos (v .low (f .0) (f .1))) ∙ ap suc (f .2) ∙ suc-pred-eq-of-pos p)

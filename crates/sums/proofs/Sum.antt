@@ -1,7 +1,7 @@
 -- The laws of finite sums. Assumes nothing.
 use Prim.Native.Nat.{ℕ, zero, suc, _+_, _*_, _-_, _%_, _≤_, _<_, zero-le}
 use mathlib.Core.Path.{_≡_, refl, sym, ap, ap₂, _∙_, subst}
-use native.Mathlib.Nat.{le-of-eq, le-trans, add-zero, add-suc, add-comm, mod-lt, mod-eq-of-lt, add-mod-mod, add-mod-right}
+use native.Mathlib.Nat.{le-of-eq, le-trans, add-zero, add-suc, add-comm, mul-add, mod-lt, mod-eq-of-lt, add-mod-mod, add-mod-right}
 use native.Mathlib.Decide.{ℕ-discrete}
 use borrow.Author.Tests.{eq-eqb, ne-eqb}
 use native.Mathlib.Numerals.{add-one}
@@ -177,3 +177,20 @@ pub pos-total : (n : ℕ) (f : ℕ → ℕ) → pos (total n f) ≡ sum n (λ i.
 unfolding sum total
 pos-total zero f = refl
 pos-total (suc n) f = ap (λ a. a +ℤ pos (f n)) (pos-total n f)
+
+pub total-le : (n B : ℕ) (f : ℕ → ℕ) → ((i : ℕ) → i < n → f i ≤ B) → total n f ≤ n * B
+unfolding total
+total-le zero B f h = zero-le
+total-le (suc n) B f h = omega (arith, total-le n B f (λ i k. h i (omega arith)), h n (omega arith))
+
+-- terms that are at most B times others
+pub total-scaled : (n B : ℕ) (f g : ℕ → ℕ) → ((i : ℕ) → i < n → f i ≤ B * g i) → total n f ≤ B * total n g
+unfolding total
+total-scaled zero B f g h = zero-le
+total-scaled (suc n) B f g h =
+    omega (arith, total-scaled n B f g (λ i k. h i (omega arith)), h n (omega arith), mul-add B (total n g) (g n))
+
+pub natAbs-total : (n : ℕ) (f : ℕ → ℤ) → natAbs (sum n f) ≤ total n (λ i. natAbs (f i))
+unfolding sum total
+natAbs-total zero f = zero-le
+natAbs-total (suc n) f = omega (arith, natAbs-+ (sum n f) (f n), natAbs-total n f)

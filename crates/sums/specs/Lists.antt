@@ -1,7 +1,7 @@
 -- Lists by their places: what a lent slice holds. Assumes nothing.
 use Prim.Native.Nat.{ℕ, zero, suc}
 use mathlib.Core.List.{List, [], _∷_, _++_}
-use mathlib.Core.Bool.{Bool, cond}
+use mathlib.Core.Bool.{Bool, false, cond, _||_}
 use lib.IntN.{ℤ, pos}
 use lib.ListN.{length, getD, drop}
 
@@ -22,3 +22,8 @@ put vs l = vs ++ drop (length vs) l
 unfoldable pub seek : (ℕ → Bool) → ℕ → ℕ → ℕ
 seek test zero k = k
 seek test (suc n) k = cond (test k) k (seek test n (suc k))
+
+-- whether the test holds at some of the first n places
+unfoldable pub some : ℕ → (ℕ → Bool) → Bool
+some zero test = false
+some (suc n) test = some n test || test n

@@ -1,0 +1,8 @@
+-- The laws of responses and predictions.
+pub mod Recovery
+pub mod Linear
+pub mod Register
+pub mod Laying
+pub mod Kernel
+pub mod Nearest
+mod Signs

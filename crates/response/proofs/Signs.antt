@@ -1,0 +1,33 @@
+-- Signed numbers by their signs: what the machine asks of a negation and of a cast, and the rounded mean of each sign. Assumes nothing.
+use mathlib.Core.Path.{_≡_, refl}
+use mathlib.Core.Bool.{true, false, true≢false}
+use borrow.Author.Tests.{ltb-true}
+use Prim.Native.Nat.{ℕ, zero, suc, _<_, _^_}
+use native.Mathlib.Omega.{arith}
+use lib.IntN.{ℤ, pos, negsuc, negℤ, natAbs, _-ℤ_, +ℤ-idl}
+use lib.Signed.{ltZ}
+use mir.Syntax.{w64}
+use mir.Val.{SFits, toZ}
+use mir.ValLaws.{toZ-ofZ}
+use Rattle.response.specs.Rounding.{nearest, rounded}
+
+-- a number of 64 bits below 2 ^ 63, read as a signed one
+pub as-signed : (n : ℕ) → n < 2 ^ 63 → toZ w64 n ≡ pos n
+as-signed n h = toZ-ofZ w64 (pos n) (record { sfits = h })
+
+-- `-z` is 0 - z to the machine, and fits where z is not the least number
+pub neg-fits : (z : ℤ) → natAbs z < 2 ^ 63 → SFits w64 (negℤ z)
+neg-fits (pos zero) h = record { sfits = h }
+neg-fits (pos (suc n)) h = record { sfits = omega arith }
+neg-fits (negsuc n) h = record { sfits = h }
+
+pub minus-is : (z : ℤ) → pos 0 -ℤ z ≡ negℤ z
+minus-is z = +ℤ-idl (negℤ z)
+
+pub mean-negative : (z : ℤ) (d : ℕ) → ltZ z (pos 0) ≡ true → negℤ (pos (nearest (natAbs z) d)) ≡ rounded z d
+mean-negative (pos n) d e = absurd (omega (arith, ltb-true n 0 e))
+mean-negative (negsuc n) d e = refl
+
+pub mean-positive : (z : ℤ) (d : ℕ) → ltZ z (pos 0) ≡ false → pos (nearest (natAbs z) d) ≡ rounded z d
+mean-positive (pos n) d e = refl
+mean-positive (negsuc n) d e = absurd (true≢false e)

@@ -1,0 +1,83 @@
+-- `response::range::some_out` meets its contract: none of the values passed is out of the range. Assumes nothing.
+use mathlib.Core.Path.{_≡_, refl, sym, ap, _∙_}
+use mathlib.Core.Bool.{true, false}
+use Prim.Native.Nat.{suc, _≤_, _-_}
+use native.Mathlib.Numerals.{add-one}
+use native.Mathlib.Omega.{arith}
+use lib.ListN.{length}
+use mir.Syntax.{w32}
+use Rattle.sums.specs.Lists.{at, some}
+use Rattle.sums.proofs.Bound.{read}
+use Rattle.sums.proofs.Somewhere.{some-at, some-past}
+use Rattle.response.specs.Calls.{sampleOut, someOut}
+use Rattle.response.proofs.range.some_out.Statement.{statement}
+use Rattle.response.proofs.range.some_out.Tie as tie
+use Rattle.response.proofs.range.some_out.Reads as reads
+use Rattle.response.proofs.range.some_out.Lts as lts
+use Rattle.response.proofs.range.sample_out.Reads as sample-out-reads
+
+abbrev Inv-loop : tie.InvT-loop
+Inv-loop y j₀ j = (j ≤ length y) × (someOut j (at y) ≡ false)
+
+abbrev μ-loop : tie.MeasureT-loop
+μ-loop y j₀ j = length y - j
+
+loop-holds : tie.Need-loop-holds Inv-loop μ-loop
+unfolding some
+loop-holds c = (omega arith, refl)
+
+mul-sample-out : tie.Need-mul-sample-out Inv-loop μ-loop
+mul-sample-out c = omega arith
+
+shared-slice-copy-out-sample-out : tie.Need-shared-slice-copy-out-sample-out Inv-loop μ-loop
+shared-slice-copy-out-sample-out c = omega arith
+
+sample-out-requires : tie.Need-sample-out-requires Inv-loop μ-loop
+sample-out-requires c κs = tt
+
+-- what the test says of the value itself
+tested : (c : tie.After-sample-out Inv-loop μ-loop)
+    → c .sample-out .result ≡ sampleOut (at (c .before .before .before .before .args .y .now) (c .before .before .before .loop .j))
+tested c =
+    c .sample-out .ensures
+    ∙ ap sampleOut (read w32 (at (c .before .before .before .before .args .y .now) (c .before .before .before .loop .j)) (c .before .sample-out-arg .given))
+
+returns : tie.Need-returns Inv-loop μ-loop
+returns c =
+    let y = c .before .before .before .before .before .args .y .now in
+    let j = c .before .before .before .before .loop .j in
+    sym (some-at (λ i. sampleOut (at y i)) (length y) j (omega arith) (sym (tested (c .before)) ∙ c .if1 .taken))
+
+add-j : tie.Need-add-j Inv-loop μ-loop
+add-j c = omega arith
+
+loop-less : tie.Need-loop-less Inv-loop μ-loop
+loop-less c = omega arith
+
+loop-again : tie.Need-loop-again Inv-loop μ-loop
+loop-again c =
+    let y = c .before .before .before .before .before .args .y .now in
+    let j = c .before .before .before .before .loop .j in
+    (omega arith, rw add-one (some-past (λ i. sampleOut (at y i)) j (sym (tested (c .before)) ∙ c .if1 .left) (c .before .before .before .before .loop .inv .1)))
+
+returns-2 : tie.Need-returns-2 Inv-loop μ-loop
+returns-2 c =
+    let y = c .before .before .args .y .now in
+    let e : c .before .loop .j ≡ length y = omega arith in
+    sym (rw e at (c .before .loop .inv .1))
+
+pub some-out-spec : {M : Type 1} → statement M
+some-out-spec =
+    tie.close
+    (tie.spec
+    Inv-loop
+    μ-loop
+    loop-holds
+    mul-sample-out
+    shared-slice-copy-out-sample-out
+    sample-out-requires
+    returns
+    add-j
+    loop-less
+    loop-again
+    returns-2)

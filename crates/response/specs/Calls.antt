@@ -1,0 +1,69 @@
+-- One recording and a prediction, each by one function from all that is handed in to all that is handed back: document 01, "Response and
+-- prediction", "Order of checks" and "Room". Assumes nothing.
+use mathlib.Core.List.{List, [], _∷_, _++_}
+use mathlib.Core.Bool.{Bool, not, _||_}
+use Prim.Native.Nat.{ℕ, _+_, _*_}
+use lib.Dec.{eqb, ltb}
+use lib.IntN.{ℤ, pos, negsuc}
+use lib.ListN.{length}
+use lib.Signed.{ltZ}
+use Rattle.sums.specs.Lists.{at, table, put, some}
+use Rattle.sums.specs.Refusals.{outcome}
+use Rattle.register.specs.Register.{P, wave}
+use Rattle.register.specs.Calls.{tapsChecks}
+use Rattle.response.specs.Response.{response, prediction}
+
+-- ---- the causes
+
+-- 5: recording or response not exactly P long
+abbrev pub lengthOff : ℕ → List ℤ → Bool
+lengthOff N y = not (eqb (length y) (P N))
+
+-- a value outside the sample range, -8,388,608 to 8,388,607
+abbrev pub sampleOut : ℤ → Bool
+sampleOut z = ltZ z (negsuc 8388607) || ltZ (pos 8388607) z
+
+-- 7: of those handed in; 8: of those predicted
+abbrev pub someOut : ℕ → (ℕ → ℤ) → Bool
+someOut n y = some n (λ j. sampleOut (y j))
+
+-- ---- one recording: 1 to 7; the answer, the output, the wide room and the tags
+
+-- 6: output, P+1 wide numbers, 2P tags
+abbrev pub roomShort : ℕ → List ℤ → List ℤ → List ℕ → Bool
+roomShort N out room tags = ltb (length out) (P N) || ltb (length room) (P N + 1) || ltb (length tags) (2 * P N)
+
+abbrev pub recordingChecks : ℕ → ℕ → List ℤ → List ℤ → List ℤ → List ℕ → List (ℕ × Bool)
+recordingChecks N taps y out room tags =
+    tapsChecks N taps ++ (5, lengthOff N y) ∷ (6, roomShort N out room tags) ∷ (7, someOut (length y) (at y)) ∷ []
+
+-- zeros in the place of the first n
+abbrev pub clearedWide : ℕ → List ℤ → List ℤ
+clearedWide n l = put (table n (λ _. pos 0)) l
+
+abbrev pub clearedTags : ℕ → List ℕ → List ℕ
+clearedTags n l = put (table n (λ _. 0)) l
+
+unfoldable pub recordingOutcome : ℕ → ℕ → List ℤ → List ℤ → List ℤ → List ℕ → ℕ × List ℤ × List ℤ × List ℕ
+recordingOutcome N taps y out room tags =
+    outcome (recordingChecks N taps y out room tags) (λ n. (n, out, room, tags)) (
+      0,
+      put (table (P N) (response (P N) (wave N taps) (at y))) out,
+      clearedWide (P N + 1) room,
+      clearedTags (2 * P N) tags,
+    )
+
+-- ---- prediction: 1 to 8; the answer and the output
+
+abbrev pub predictionChecks : ℕ → ℕ → List ℤ → List ℤ → List (ℕ × Bool)
+predictionChecks N taps h out =
+    tapsChecks N taps
+    ++ (5, lengthOff N h)
+    ∷ (6, ltb (length out) (P N))
+    ∷ (7, someOut (length h) (at h))
+    ∷ (8, someOut (P N) (prediction (P N) (wave N taps) (at h)))
+    ∷ []
+
+unfoldable pub predictionOutcome : ℕ → ℕ → List ℤ → List ℤ → ℕ × List ℤ
+predictionOutcome N taps h out =
+    outcome (predictionChecks N taps h out) (λ n. (n, out)) (0, put (table (P N) (prediction (P N) (wave N taps) (at h))) out)

@@ -1,0 +1,9 @@
+// One recording turned into a response, a recording predicted from one, and the rounding of a mean.
+mod range;
+mod clear;
+mod spread;
+mod gather;
+pub mod rounding;
+
+pub const LOWEST_SAMPLE: i32 = -8388608;
+pub const HIGHEST_SAMPLE: i32 = 8388607;

@@ -1,0 +1,38 @@
+-- A test that holds at no place, and one that holds at some. Assumes nothing.
+use mathlib.Core.Path.{_≡_, refl, sym, ap, ap₂, _∙_}
+use mathlib.Core.Bool.{Bool, true, false, _||_}
+use Prim.Native.Nat.{ℕ, zero, suc, _<_}
+use native.Mathlib.Decide.{ℕ-discrete}
+use native.Mathlib.Omega.{arith}
+use Rattle.sums.specs.Lists.{some}
+use Rattle.sums.proofs.First.{or-false}
+
+or-true : (a : Bool) → a || true ≡ true
+or-true true = refl
+or-true false = refl
+
+module _ (test : ℕ → Bool) where
+  pub none-of : (n : ℕ) → some n test ≡ false → (i : ℕ) → i < n → test i ≡ false
+  unfolding some
+  none-of zero h i l = absurd (omega arith)
+  none-of (suc n) h i l =
+      let two = or-false (some n test) (test n) h in
+      elim (ℕ-discrete i n) [ yes e ↦ ap test e ∙ two .1 | no e ↦ none-of n (two .0) i (omega arith) ]
+
+  pub some-none : (n : ℕ) → ((i : ℕ) → i < n → test i ≡ false) → some n test ≡ false
+  unfolding some
+  some-none zero h = refl
+  some-none (suc n) h = ap₂ _||_ (some-none n (λ i l. h i (omega arith))) (h n (omega arith))
+
+  pub some-at : (n i : ℕ) → i < n → test i ≡ true → some n test ≡ true
+  unfolding some
+  some-at zero i l t = absurd (omega arith)
+  some-at (suc n) i l t = elim (ℕ-discrete i n) [
+    | yes e ↦ ap (λ b. some n test || b) (ap test (sym e) ∙ t) ∙ or-true (some n test)
+    | no e ↦ ap (λ b. b || test n) (some-at n i (omega arith) t)
+  ]
+
+  -- one place more, at which it does not hold
+  pub some-past : (n : ℕ) → test n ≡ false → some n test ≡ false → some (suc n) test ≡ false
+  unfolding some
+  some-past n t h = ap₂ _||_ h t
