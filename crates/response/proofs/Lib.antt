@@ -6,3 +6,4 @@ pub mod Laying
 pub mod Kernel
 pub mod Nearest
 mod Signs
+pub mod Samples

@@ -3,7 +3,8 @@ mod range;
 mod clear;
 mod spread;
 mod gather;
+mod hear;
 pub mod rounding;
 
-pub const LOWEST_SAMPLE: i32 = -8388608;
-pub const HIGHEST_SAMPLE: i32 = 8388607;
+pub const LOWEST_SAMPLE: i64 = -8388608;
+pub const HIGHEST_SAMPLE: i64 = 8388607;

@@ -5,9 +5,8 @@ use Prim.Native.Nat.{suc, _≤_, _-_}
 use native.Mathlib.Numerals.{add-one}
 use native.Mathlib.Omega.{arith}
 use lib.ListN.{length}
-use mir.Syntax.{w32}
 use Rattle.sums.specs.Lists.{at, some}
-use Rattle.sums.proofs.Bound.{read}
+use Rattle.sums.proofs.Bound.{wide, wide-fits}
 use Rattle.sums.proofs.Somewhere.{some-at, some-past}
 use Rattle.response.specs.Calls.{sampleOut, someOut}
 use Rattle.response.proofs.range.some_out.Statement.{statement}
@@ -32,6 +31,9 @@ mul-sample-out c = omega arith
 shared-slice-copy-out-sample-out : tie.Need-shared-slice-copy-out-sample-out Inv-loop μ-loop
 shared-slice-copy-out-sample-out c = omega arith
 
+cast-sample-out : tie.Need-cast-sample-out Inv-loop μ-loop
+cast-sample-out c = wide-fits (at (c .before .before .before .args .y .now) (c .before .before .loop .j)) (c .sample-out-arg .given)
+
 sample-out-requires : tie.Need-sample-out-requires Inv-loop μ-loop
 sample-out-requires c κs = tt
 
@@ -40,7 +42,7 @@ tested : (c : tie.After-sample-out Inv-loop μ-loop)
     → c .sample-out .result ≡ sampleOut (at (c .before .before .before .before .args .y .now) (c .before .before .before .loop .j))
 tested c =
     c .sample-out .ensures
-    ∙ ap sampleOut (read w32 (at (c .before .before .before .before .args .y .now) (c .before .before .before .loop .j)) (c .before .sample-out-arg .given))
+    ∙ ap sampleOut (wide (at (c .before .before .before .before .args .y .now) (c .before .before .before .loop .j)) (c .before .sample-out-arg .given))
 
 returns : tie.Need-returns Inv-loop μ-loop
 returns c =
@@ -75,6 +77,7 @@ some-out-spec =
     loop-holds
     mul-sample-out
     shared-slice-copy-out-sample-out
+    cast-sample-out
     sample-out-requires
     returns
     add-j

@@ -1,0 +1,23 @@
+-- A number in the sample range is small: at most 2^23 in size, so it fits an i32. Assumes nothing.
+use mathlib.Core.Path.{_≡_}
+use mathlib.Core.Bool.{false}
+use Prim.Native.Nat.{ℕ, suc, _^_, _≤_}
+use native.Mathlib.Omega.{arith}
+use lib.IntN.{ℤ, pos, negsuc, natAbs}
+use lib.Signed.{ltZ, mag}
+use mir.Syntax.{w32}
+use mir.Val.{SFits}
+use Rattle.sums.proofs.Bound.{in-range, natAbs-≤}
+use Rattle.sums.proofs.First.{or-false}
+use Rattle.response.specs.Calls.{sampleOut}
+
+in-mag : (z : ℤ) → sampleOut z ≡ false → mag z ≤ 8388607
+in-mag z h =
+    let two = or-false (ltZ z (negsuc 8388607)) (ltZ (pos 8388607) z) h in
+    in-range z 8388607 (two .0) (two .1)
+
+pub sample-fits : (z : ℤ) → sampleOut z ≡ false → SFits w32 z
+sample-fits z h = record { sfits = omega (arith, in-mag z h) }
+
+pub sample-size : (z : ℤ) → sampleOut z ≡ false → natAbs z ≤ 2 ^ 23
+sample-size z h = omega (arith, in-mag z h, natAbs-≤ z)

@@ -1,0 +1,42 @@
+// The last step of a prediction: the transform read at the windows, in their order.
+use crate::range::sample_out;
+use register::shift::{full_period, step};
+ghost use mathlib.Core.Path.{_≡_};
+ghost use mathlib.Core.Bool.{false};
+ghost use Prim.Native.Nat.{_≤_, _<_};
+ghost use lib.ListN.{length};
+ghost use Rattle.sums.specs.Lists.{at, table, put};
+ghost use Rattle.register.specs.Register.{P, window as windowOf, Accepted};
+ghost use Rattle.response.specs.Calls.{someOut};
+
+// Whether some of the samples lies outside the sample range.
+pub fn some_heard_out(order: u32, taps: u32, t: &[i64], period: usize) -> bool
+    requires { ⌜ (Accepted order taps) × (period ≡ P order) × (period < length (now t)) ⌝ }
+    ensures { λ r. ⌜ r ≡ someOut period (λ j. at (now (t .entry)) (windowOf order taps j)) ⌝ }
+{
+    let mut window = full_period(order);
+    let mut j = 0;
+    while j < period {
+        if sample_out(t[window as usize]) {
+            return true;
+        }
+        window = step(order, taps, window);
+        j += 1;
+    }
+    false
+}
+
+// Each sample at its place.
+pub fn write_heard(order: u32, taps: u32, t: &[i64], out: &mut [i32], period: usize)
+    requires { ⌜ (Accepted order taps) × (period ≡ P order) × (period < length (now t)) × (period ≤ length (now out)) ⌝ }
+    requires { ⌜ someOut period (λ j. at (now t) (windowOf order taps j)) ≡ false ⌝ }
+    ensures { λ _. ⌜ now (out .exit) ≡ put (table period (λ j. at (now (t .entry)) (windowOf order taps j))) (now (out .entry)) ⌝ }
+{
+    let mut window = full_period(order);
+    let mut j = 0;
+    while j < period {
+        out[j] = t[window as usize] as i32;
+        window = step(order, taps, window);
+        j += 1;
+    }
+}
