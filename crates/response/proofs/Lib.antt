@@ -7,3 +7,5 @@ pub mod Kernel
 pub mod Nearest
 mod Signs
 pub mod Samples
+pub mod FastRoute
+mod Clearing

@@ -1,15 +1,21 @@
 -- A number in the sample range is small: at most 2^23 in size, so it fits an i32. Assumes nothing.
 use mathlib.Core.Path.{_≡_}
 use mathlib.Core.Bool.{false}
-use Prim.Native.Nat.{ℕ, suc, _^_, _≤_}
+use mathlib.Core.List.{List}
+use Prim.Native.Nat.{ℕ, suc, _^_, _≤_, _<_}
 use native.Mathlib.Omega.{arith}
 use lib.IntN.{ℤ, pos, negsuc, natAbs}
+use lib.ListN.{length}
 use lib.Signed.{ltZ, mag}
 use mir.Syntax.{w32}
 use mir.Val.{SFits}
+use Rattle.sums.specs.Sum.{total}
+use Rattle.sums.specs.Lists.{at}
 use Rattle.sums.proofs.Bound.{in-range, natAbs-≤}
 use Rattle.sums.proofs.First.{or-false}
-use Rattle.response.specs.Calls.{sampleOut}
+use Rattle.sums.proofs.Somewhere.{none-of}
+use Rattle.sums.proofs.Sum.{total-le}
+use Rattle.response.specs.Calls.{sampleOut, someOut}
 
 in-mag : (z : ℤ) → sampleOut z ≡ false → mag z ≤ 8388607
 in-mag z h =
@@ -21,3 +27,11 @@ sample-fits z h = record { sfits = omega (arith, in-mag z h) }
 
 pub sample-size : (z : ℤ) → sampleOut z ≡ false → natAbs z ≤ 2 ^ 23
 sample-size z h = omega (arith, in-mag z h, natAbs-≤ z)
+
+-- a recording of samples is not loud
+pub quiet : (y : List ℤ) (n : ℕ) → length y ≡ n → n ≤ 65535 → someOut (length y) (at y) ≡ false → total n (λ j. natAbs (at y j)) < 2 ^ 62
+quiet y n e h none =
+    omega (
+      arith,
+      total-le n (2 ^ 23) (λ j. natAbs (at y j)) (λ j l. sample-size (at y j) (none-of (λ i. sampleOut (at y i)) (length y) none j (omega arith))),
+    )

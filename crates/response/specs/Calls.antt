@@ -67,3 +67,8 @@ predictionChecks N taps h out =
 unfoldable pub predictionOutcome : ℕ → ℕ → List ℤ → List ℤ → ℕ × List ℤ
 predictionOutcome N taps h out =
     outcome (predictionChecks N taps h out) (λ n. (n, out)) (0, put (table (P N) (prediction (P N) (wave N taps) (at h))) out)
+
+-- what is left of it once 1 to 7 are passed
+abbrev pub heardOutcome : ℕ → ℕ → List ℤ → List ℤ → ℕ × List ℤ
+heardOutcome N taps h out =
+    outcome ((8, someOut (P N) (prediction (P N) (wave N taps) (at h))) ∷ []) (λ n. (n, out)) (0, put (table (P N) (prediction (P N) (wave N taps) (at h))) out)

@@ -11,7 +11,7 @@ ghost use Rattle.register.specs.Register.{P, tag as tagOf, Accepted};
 pub fn gather(order: u32, taps: u32, t: &[i64], out: &mut [i64], period: usize)
     requires { ⌜ (Accepted order taps) × (period ≡ P order) ⌝ }
     requires { ⌜ (period < length (now t)) × (period ≤ length (now out)) ⌝ }
-    requires { ⌜ ((w : ℕ) → natAbs (at (now t) w) < 2 ^ 62) ⌝ }
+    requires { ⌜ ((w : ℕ) → w ≤ period → natAbs (at (now t) w) < 2 ^ 62) ⌝ }
     ensures { λ _. ⌜ now (out .exit) ≡ put (table period (λ k. at (now (t .entry)) (tagOf order taps (period - k)) -ℤ at (now (t .entry)) 0)) (now (out .entry)) ⌝ }
 {
     let base = t[0];

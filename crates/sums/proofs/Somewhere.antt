@@ -11,6 +11,12 @@ or-true : (a : Bool) → a || true ≡ true
 or-true true = refl
 or-true false = refl
 
+-- only the places below n count
+pub some-ext : (n : ℕ) {f g : ℕ → Bool} → ((i : ℕ) → i < n → f i ≡ g i) → some n f ≡ some n g
+unfolding some
+some-ext zero h = refl
+some-ext (suc n) h = ap₂ _||_ (some-ext n (λ i l. h i (omega arith))) (h n (omega arith))
+
 module _ (test : ℕ → Bool) where
   pub none-of : (n : ℕ) → some n test ≡ false → (i : ℕ) → i < n → test i ≡ false
   unfolding some

@@ -38,9 +38,9 @@ module _ {A : Type 0} where
   pub record Written (n : ℕ) (f : ℕ → A) (d s : List A) : Type 0 where
     pub is : s ≡ put (table n f) d
 
-  front : (n : ℕ) (f : ℕ → A) (d : List A) → put (table n f) d ≡ table n f ++ drop n d
+  pub put-table : (n : ℕ) (f : ℕ → A) (d : List A) → put (table n f) d ≡ table n f ++ drop n d
   unfolding put
-  front n f d = ap (λ k. table n f ++ drop k d) (length-table n f)
+  put-table n f d = ap (λ k. table n f ++ drop k d) (length-table n f)
 
   next : (n : ℕ) (f : ℕ → A) (d : List A) → n < length d → set (table n f ++ drop n d) n (f n) ≡ table (suc n) f ++ drop (suc n) d
   unfolding table
@@ -54,7 +54,7 @@ module _ {A : Type 0} where
 
   pub written-more : {n : ℕ} {f : ℕ → A} {d s : List A} {x : A} → Written n f d s → n < length d → x ≡ f n → Written (n + 1) f d (set s n x)
   written-more {n} {f} {d} w h e =
-      record { is = rw (w .is, e, add-one, front n f d) (next n f d h ∙ sym (front (suc n) f d)) }
+      record { is = rw (w .is, e, add-one, put-table n f d) (next n f d h ∙ sym (put-table (suc n) f d)) }
 
   pub written-length : {n : ℕ} {f : ℕ → A} {d s : List A} → Written n f d s → n ≤ length d → length s ≡ length d
   written-length {n} {f} {d} w h = rw (w .is) (length-put (table n f) d (omega (arith, length-table n f)))
@@ -63,14 +63,14 @@ module _ {A : Type 0} where
 
   pub at-put : (n : ℕ) (f : ℕ → A) (d : List A) (i : ℕ) (z : A) → i < n → getD (put (table n f) d) i z ≡ f i
   at-put n f d i z h =
-      rw (front n f d) (List·getD-append (table n f) (drop n d) z i (omega (arith, length-table n f)) ∙ at-table n f i z h)
+      rw (put-table n f d) (List·getD-append (table n f) (drop n d) z i (omega (arith, length-table n f)) ∙ at-table n f i z h)
 
   pub at-tail : (n : ℕ) (f : ℕ → A) (d : List A) (i : ℕ) (z : A) → n ≤ i → getD (put (table n f) d) i z ≡ getD d i z
   at-tail n f d i z h =
       let l = length-table n f in
       let e : length (table n f) + (i - n) ≡ i = omega arith in
       let e′ : n + (i - n) ≡ i = omega arith in
-      rw (front n f d)
+      rw (put-table n f d)
       (ap (λ k. getD (table n f ++ drop n d) k z) (sym e)
       ∙ getD-append-add (table n f) (drop n d) (i - n) z
       ∙ getD-drop n d (i - n) z ∙ ap (λ k. getD d k z) e′)

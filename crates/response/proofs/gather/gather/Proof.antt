@@ -77,7 +77,7 @@ sub-out c =
     let t = b .args .t .now in
     let w = c .before .tag-step .result in
     rw (read w64 (at t w) (c .out .given), read w64 (at t 0) (c .before .before .before .before .base .given))
-    (small-fits w64 _ (omega (arith, natAbs-sub (at t w) (at t 0), b .pre .1 .1 w, b .pre .1 .1 0)))
+    (small-fits w64 _ (omega (arith, natAbs-sub (at t w) (at t 0), b .pre .1 .1 w (omega (arith, below (c .before), b .pre .0 .1)), b .pre .1 .1 0 (omega arith))))
 
 mul-t17 : tie.Need-mul-t17 Inv-loop μ-loop
 mul-t17 c = omega (arith, c .before .before .before .before .before .good)

@@ -1,0 +1,52 @@
+// A recording predicted from a response, by the same route the other way round, in a room of its own.
+use crate::hear::{some_heard_out, write_heard};
+use crate::range::some_out;
+use crate::respond::transform_room;
+use crate::spread::spread_back;
+use register::taps::check_taps;
+use register::shift::full_period;
+ghost use mathlib.Core.Path.{_≡_};
+ghost use mathlib.Core.Bool.{false};
+ghost use Prim.Native.Nat.{_≤_, _<_};
+ghost use lib.ListN.{length};
+ghost use Rattle.sums.specs.Lists.{at};
+ghost use Rattle.register.specs.Register.{P, Accepted};
+ghost use Rattle.response.specs.Calls.{someOut, heardOutcome, predictionOutcome};
+
+// The samples, in the room lent: 0, or 8 with the output left as it was.
+fn predict_in(order: u32, taps: u32, h: &[i32], out: &mut [i32], room: &mut [i64]) -> u32
+    requires { ⌜ (Accepted order taps) × (length (now h) ≡ P order) × (P order ≤ length (now out)) × (P order < length (now room)) ⌝ }
+    requires { ⌜ someOut (length (now h)) (at (now h)) ≡ false ⌝ }
+    ensures { λ r. ⌜ (r, now (out .exit)) ≡ heardOutcome order taps (now (h .entry)) (now (out .entry)) ⌝ }
+{
+    let period = h.len();
+    spread_back(order, taps, h, room);
+    transform_room(order, room, period + 1);
+    if some_heard_out(order, taps, room, period) {
+        return 8;
+    }
+    write_heard(order, taps, room, out, period);
+    0
+}
+
+// y(j) at every place: 0, or the refusal.
+pub fn predict(order: u32, taps: u32, h: &[i32], out: &mut [i32]) -> u32
+    ensures { λ r. ⌜ (r, now (out .exit)) ≡ predictionOutcome order taps (now (h .entry)) (now (out .entry)) ⌝ }
+{
+    let refusal = check_taps(order, taps);
+    if refusal != 0 {
+        return refusal;
+    }
+    let period = full_period(order) as usize;
+    if h.len() != period {
+        return 5;
+    }
+    if out.len() < period {
+        return 6;
+    }
+    if some_out(h) {
+        return 7;
+    }
+    let mut room: [i64; 65536] = [0; 65536];
+    predict_in(order, taps, h, out, &mut room)
+}

@@ -1,0 +1,75 @@
+// One recording turned into its response, by the fast route in lent room.
+use crate::clear::{clear_tags, clear_wide};
+use crate::range::some_out;
+use crate::respond::respond;
+use crate::spread::spread;
+use register::taps::check_taps;
+use register::shift::full_period;
+ghost use mathlib.Core.Path.{_≡_};
+ghost use mathlib.Core.Bool.{false, _||_};
+ghost use Prim.Native.Nat.{_+_, _*_, _≤_, _<_};
+ghost use lib.Dec.{ltb};
+ghost use lib.ListN.{length};
+ghost use Rattle.sums.specs.Lists.{at, table, put};
+ghost use Rattle.register.specs.Register.{P, wave, Accepted};
+ghost use Rattle.response.specs.Response.{response};
+ghost use Rattle.response.specs.Calls.{someOut, clearedWide, clearedTags, recordingOutcome};
+
+// Whether an output of P, P+1 wide numbers or 2P tags are too short.
+pub fn room_short(period: usize, out: usize, room: usize, tags: usize) -> bool
+    requires { ⌜ period ≤ 65535 ⌝ }
+    ensures { λ r. ⌜ r ≡ ltb out period || ltb room (period + 1) || ltb tags (2 * period) ⌝ }
+{
+    if out < period {
+        return true;
+    }
+    if room < period + 1 {
+        return true;
+    }
+    tags < 2 * period
+}
+
+// The response of a recording that has passed the checks: into the output, and the room cleared.
+fn turn(order: u32, taps: u32, y: &[i32], out: &mut [i64], room: &mut [i64], tags: &mut [u16])
+    requires { ⌜ (Accepted order taps) × (length (now y) ≡ P order) × (someOut (length (now y)) (at (now y)) ≡ false) ⌝ }
+    requires { ⌜ (P order ≤ length (now out)) × (P order < length (now room)) × (2 * P order ≤ length (now tags)) ⌝ }
+    ensures { λ _. ⌜ (now (out .exit) ≡ put (table (P order) (response (P order) (wave order taps) (at (now (y .entry))))) (now (out .entry)))
+        × (now (room .exit) ≡ clearedWide (P order + 1) (now (room .entry)))
+        × (now (tags .exit) ≡ clearedTags (2 * P order) (now (tags .entry))) ⌝ }
+{
+    let period = y.len();
+    spread(order, taps, y, room);
+    respond(order, taps, room, out, period);
+    clear_wide(room, period + 1);
+    clear_tags(tags, 2 * period);
+}
+
+// r(k) at every place: 0, or the refusal. The room that was used holds zeros after it.
+pub fn one_recording(
+    order: u32,
+    taps: u32,
+    y: &[i32],
+    out: &mut [i64],
+    room: &mut [i64],
+    tags: &mut [u16],
+) -> u32
+    ensures { λ r. ⌜ (r, now (out .exit), now (room .exit), now (tags .exit))
+        ≡ recordingOutcome order taps (now (y .entry)) (now (out .entry)) (now (room .entry)) (now (tags .entry)) ⌝ }
+{
+    let refusal = check_taps(order, taps);
+    if refusal != 0 {
+        return refusal;
+    }
+    let period = full_period(order) as usize;
+    if y.len() != period {
+        return 5;
+    }
+    if room_short(period, out.len(), room.len(), tags.len()) {
+        return 6;
+    }
+    if some_out(y) {
+        return 7;
+    }
+    turn(order, taps, y, out, room, tags);
+    0
+}
