@@ -131,9 +131,9 @@ module _ (N taps : ℕ) (g : Generator N taps) where
           let a : P N - i ≡ suc (P N - suc i) = omega arith in
           let b : P N - j ≡ suc (P N - suc j) = omega arith in
           let f =
-            step-inj N taps (window N taps (P N - suc i)) (window N taps (P N - suc j)) (g .tapped)
-            (window-lt N taps (P N - suc i)) (window-lt N taps (P N - suc j))
-            (ap (window N taps) (sym a) ∙ e ∙ ap (window N taps) b) in
+          step-inj N taps (window N taps (P N - suc i)) (window N taps (P N - suc j)) (g .tapped)
+          (window-lt N taps (P N - suc i)) (window-lt N taps (P N - suc j))
+          (ap (window N taps) (sym a) ∙ e ∙ ap (window N taps) b) in
           let s = distinct N taps (g .tapped) (g .maximal .first) (P N - suc i) (P N - suc j) (omega arith) (omega arith) f in
           omega arith
 

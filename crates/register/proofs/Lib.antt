@@ -8,5 +8,5 @@ pub mod Correlation
 pub mod Judged
 pub mod Certificate
 pub mod Playing
-pub mod Numbers
+pub mod Sequences
 mod Defaults

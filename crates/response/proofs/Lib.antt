@@ -9,3 +9,4 @@ mod Signs
 pub mod Samples
 pub mod FastRoute
 mod Clearing
+pub mod Paper

@@ -1,6 +1,7 @@
 // The last step of a prediction: the transform read at the windows, in their order.
 use crate::range::sample_out;
-use register::shift::{full_period, step};
+use register::shift::full_period;
+use register::shift::step;
 ghost use mathlib.Core.Path.{_≡_};
 ghost use mathlib.Core.Bool.{false};
 ghost use Prim.Native.Nat.{_≤_, _<_};

@@ -1,16 +1,17 @@
 // One recording turned into a response, a recording predicted from one, and the rounding of a mean.
-mod range;
 mod clear;
-mod spread;
 mod gather;
 mod hear;
-pub mod respond;
-mod recording;
 mod prediction;
+mod range;
+mod recording;
+pub mod respond;
 pub mod rounding;
+mod spread;
 
-pub use recording::one_recording;
 pub use prediction::predict;
+pub use recording::one_recording;
 
 pub const LOWEST_SAMPLE: i64 = -8388608;
+
 pub const HIGHEST_SAMPLE: i64 = 8388607;

@@ -1,10 +1,11 @@
 // A recording predicted from a response, by the same route the other way round, in a room of its own.
-use crate::hear::{some_heard_out, write_heard};
+use crate::hear::some_heard_out;
+use crate::hear::write_heard;
 use crate::range::some_out;
 use crate::respond::transform_room;
 use crate::spread::spread_back;
-use register::taps::check_taps;
 use register::shift::full_period;
+use register::taps::check_taps;
 ghost use mathlib.Core.Path.{_≡_};
 ghost use mathlib.Core.Bool.{false};
 ghost use Prim.Native.Nat.{_≤_, _<_};

@@ -1,10 +1,11 @@
 // One recording turned into its response, by the fast route in lent room.
-use crate::clear::{clear_tags, clear_wide};
+use crate::clear::clear_tags;
+use crate::clear::clear_wide;
 use crate::range::some_out;
 use crate::respond::respond;
 use crate::spread::spread;
-use register::taps::check_taps;
 use register::shift::full_period;
+use register::taps::check_taps;
 ghost use mathlib.Core.Path.{_≡_};
 ghost use mathlib.Core.Bool.{false, _||_};
 ghost use Prim.Native.Nat.{_+_, _*_, _≤_, _<_};

@@ -1,5 +1,7 @@
 // The first step of the fast route: numbers laid out in a room of P+1 by the places of a walk that meets each place but 0 once.
-use register::shift::{full_period, step, tag_step};
+use register::shift::full_period;
+use register::shift::step;
+use register::shift::tag_step;
 ghost use mathlib.Core.Path.{_≡_};
 ghost use Prim.Native.Nat.{_-_, _≤_, _<_};
 ghost use lib.ListN.{length};

@@ -98,7 +98,7 @@ loop-again c =
       omega arith,
       stepped (c .before),
       back-more (rw e at (c .before .before .before .loop .inv .2)) (omega arith) (b .pre .1 .0 .1)
-      (toZ-ofZ (sub-out c) ∙ ap₂ _-ℤ_ (read w64 (at t w) (c .out .given) ∙ ap (at t) (stepped (c .before))) (read w64 (at t 0) (c .before .before .before .before .base .given))),
+          (toZ-ofZ (sub-out c) ∙ ap₂ _-ℤ_ (read w64 (at t w) (c .out .given) ∙ ap (at t) (stepped (c .before))) (read w64 (at t 0) (c .before .before .before .before .base .given))),
     )
 
 same-length : tie.Need-same-length Inv-loop μ-loop

@@ -78,7 +78,7 @@ loop-again c =
       omega arith,
       window-next (a .order) (a .taps) (l .loop .j) (l .loop .inv .1) (c .step .ensures),
       rw add-one
-      (some-past (λ i. sampleOut (at (a .t .now) (windowOf (a .order) (a .taps) i))) (l .loop .j) (sym (tested (e .before)) ∙ e .if1 .left) (l .loop .inv .2)),
+          (some-past (λ i. sampleOut (at (a .t .now) (windowOf (a .order) (a .taps) i))) (l .loop .j) (sym (tested (e .before)) ∙ e .if1 .left) (l .loop .inv .2)),
     )
 
 returns-2 : tie.Need-returns-2 Inv-loop μ-loop

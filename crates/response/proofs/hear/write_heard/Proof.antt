@@ -81,7 +81,7 @@ loop-again c =
       omega arith,
       window-next (a .order) (a .taps) (l .loop .j) (l .loop .inv .1) (c .step .ensures),
       written-more (l .loop .inv .2) (omega arith)
-      (rw (read w64 (at (a .t .now) w) (c .before .out .given)) (toZ-ofZ (fits l (omega arith)) ∙ ap (at (a .t .now)) (l .loop .inv .1))),
+          (rw (read w64 (at (a .t .now) w) (c .before .out .given)) (toZ-ofZ (fits l (omega arith)) ∙ ap (at (a .t .now)) (l .loop .inv .1))),
     )
 
 same-length : tie.Need-same-length Inv-loop μ-loop

@@ -123,8 +123,7 @@ predict-in-requires c κs =
     let g = c .before .before in
     let f = g .before .before in
     let d = f .before in
-    let b = d .before .before in
-    (
+    let b = d .before .before in (
       (accepted b, long d, wide f, omega (arith, small (accepted b .shaped .most))),
       sym (g .before .some-out .ensures) ∙ g .if4 .left,
     )

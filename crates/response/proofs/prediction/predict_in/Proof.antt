@@ -50,13 +50,12 @@ transform-room-requires c κs =
     let N = b .args .order in
     let p = b .pre in
     let laid = c .before .before .spread-back .ensures in
-    let wide : P N < length (c .before .before .spread-back .last .1 .1 .1 .0) = omega (arith, laid .long, p .0 .3) in
-    (
+    let wide : P N < length (c .before .before .spread-back .last .1 .1 .1 .0) = omega (arith, laid .long, p .0 .3) in (
       p .0 .0 .shaped .most,
       omega (arith, p .0 .1, suc-ones N),
       omega (arith, p .0 .1),
       rw (loud N (tags-walk N (b .args .taps) (p .0 .0)) laid wide)
-      (quiet (b .args .h .now) (P N) (p .0 .1) (omega (arith, small (p .0 .0 .shaped .most))) (p .1)),
+          (quiet (b .args .h .now) (P N) (p .0 .1) (omega (arith, small (p .0 .0 .shaped .most))) (p .1)),
     )
 
 -- what the laws above are about, after the transform
@@ -103,8 +102,7 @@ write-heard-requires : tie.Need-write-heard-requires
 write-heard-requires c κs =
     let e = c .before .before in
     let t = e .before .before .before .before in
-    let p = start t .pre in
-    (
+    let p = start t .pre in (
       (p .0 .0, p .0 .1, omega (arith, as-long t, p .0 .1), omega (arith, p .0 .1, p .0 .2)),
       rw (p .0 .1) (told t ∙ sym (tested (e .before)) ∙ e .if1 .left),
     )

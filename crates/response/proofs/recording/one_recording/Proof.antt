@@ -124,9 +124,8 @@ turn-requires c κs =
     let d = f .before .before in
     let a = d .before .before .before .before .before .args in
     let room = or-false (ltb (length (a .out .now)) (P (a .order)) || ltb (length (a .room .now)) (P (a .order) + 1)) (ltb (length (a .tags .now)) (2 * P (a .order)))
-      (sym (short (f .before)) ∙ f .if3 .left) in
-    let both = or-false (ltb (length (a .out .now)) (P (a .order))) (ltb (length (a .room .now)) (P (a .order) + 1)) (room .0) in
-    (
+    (sym (short (f .before)) ∙ f .if3 .left) in
+    let both = or-false (ltb (length (a .out .now)) (P (a .order))) (ltb (length (a .room .now)) (P (a .order) + 1)) (room .0) in (
       (accepted (d .before .before), long d, sym (g .before .some-out .ensures) ∙ g .if4 .left),
       (ltb-false _ _ (both .0), omega (arith, ltb-false (length (a .room .now)) (P (a .order) + 1) (both .1)), ltb-false _ _ (room .1)),
     )

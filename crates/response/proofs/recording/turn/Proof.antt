@@ -26,11 +26,10 @@ respond-requires c κs =
     let y = b .args .y .now in
     let p = b .pre in
     let laid = c .before .before .before .spread .ensures in
-    let long : P N < length (c .before .before .before .spread .last .1 .1 .1 .0) = omega (arith, laid .long, p .1 .1) in
-    (
+    let long : P N < length (c .before .before .before .spread .last .1 .1 .1 .0) = omega (arith, laid .long, p .1 .1) in (
       (p .0 .0, p .0 .1, omega (arith, p .0 .1), omega (arith, p .0 .1, p .1 .0)),
       rw (loud N (windows-walk N (b .args .taps) (p .0 .0)) laid long)
-      (quiet y (P N) (p .0 .1) (omega (arith, small (p .0 .0 .shaped .most))) (p .0 .2)),
+          (quiet y (P N) (p .0 .1) (omega (arith, small (p .0 .0 .shaped .most))) (p .0 .2)),
     )
 
 add-clear-wide : tie.Need-add-clear-wide
@@ -63,12 +62,11 @@ returns c =
     let taps = b .args .taps in
     let p = b .pre in
     let laid = l .spread .ensures in
-    let long : P N < length (l .spread .last .1 .1 .1 .0) = omega (arith, laid .long, p .1 .1) in
-    (
+    let long : P N < length (l .spread .last .1 .1 .1 .0) = omega (arith, laid .long, p .1 .1) in (
       rw (p .0 .1) at (r .respond .ensures .0)
-      ∙ ap (λ t. put t (b .args .out .now)) (table-ext (P N) (λ k _. route N taps (p .0 .0) long laid k)),
+          ∙ ap (λ t. put t (b .args .out .now)) (table-ext (P N) (λ k _. route N taps (p .0 .0) long laid k)),
       rw (p .0 .1) at (c .before .before .before .before .before .clear-wide .ensures)
-      ∙ ap (clearedWide (P N + 1)) (r .respond .ensures .1) ∙ cleared-again N laid (spectrum N (l .spread .last .1 .1 .1 .0)),
+          ∙ ap (clearedWide (P N + 1)) (r .respond .ensures .1) ∙ cleared-again N laid (spectrum N (l .spread .last .1 .1 .1 .0)),
       rw (p .0 .1) at (c .before .before .clear-tags .ensures),
     )
 

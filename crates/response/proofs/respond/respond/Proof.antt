@@ -50,8 +50,7 @@ gather-requires c κs =
     let v = b .args .room .now in
     let p = b .pre in
     let e = c .before .before .before .transform-room .ensures in
-    let long : P N < length v = omega (arith, p .0 .1, p .0 .2) in
-    (
+    let long : P N < length v = omega (arith, p .0 .1, p .0 .2) in (
       (p .0 .0, p .0 .1),
       (
         (rw e (rw (length-put (table (2 ^ N) (spectrum N v)) v (omega (arith, length-table (2 ^ N) (spectrum N v), suc-ones N))) (p .0 .2)), p .0 .3),
@@ -71,10 +70,9 @@ returns c =
     let N = b .args .order in
     let v = b .args .room .now in
     let p = b .pre in
-    let e = c .before .before .before .before .before .transform-room .ensures in
-    (
+    let e = c .before .before .before .before .before .transform-room .ensures in (
       c .before .gather .ensures
-      ∙ rw (e, p .0 .1) (ap (λ t. put t (b .args .out .now)) (table-ext (P N) (λ k _. reads-at N (b .args .taps) v (p .0 .0) k))),
+          ∙ rw (e, p .0 .1) (ap (λ t. put t (b .args .out .now)) (table-ext (P N) (λ k _. reads-at N (b .args .taps) v (p .0 .0) k))),
       e,
     )
 

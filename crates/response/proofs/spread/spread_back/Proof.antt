@@ -85,7 +85,7 @@ loop-again c =
       omega arith,
       stepped (c .before),
       more-laid (walk (p .0)) (p .1 .1) (λ j. i - 1 ≤ j) (i - 1) (l .loop .inv .2) (omega (arith, p .1 .0)) (stepped (c .before))
-      (wide _ (c .room .given)) (λ j h. subst (λ n. (j ≡ i - 1) ⊎ (n ≤ j)) k (from-before (i - 1) j h)) (λ h. omega arith),
+          (wide _ (c .room .given)) (λ j h. subst (λ n. (j ≡ i - 1) ⊎ (n ≤ j)) k (from-before (i - 1) j h)) (λ h. omega arith),
     )
 
 slice-set-of-room : tie.Need-slice-set-of-room Inv-loop μ-loop
