@@ -10,3 +10,4 @@ pub mod Tables
 pub mod First
 pub mod Seek
 pub mod Somewhere
+pub mod Everywhere

@@ -8,7 +8,7 @@ use native.Mathlib.Numerals.{add-one}
 use native.Mathlib.Omega.{arith}
 use lib.IntN.{ℤ, pos, negℤ, natAbs, _+ℤ_, _-ℤ_, _*ℤ_, +ℤ-idr, +ℤ-idl, +ℤ-assoc, +ℤ-comm, negℤ-+ℤ, *ℤ-zero, zero-*ℤ, *ℤ-comm}
 use Rattle.sums.specs.Sum.{sum, total, delta}
-use Rattle.sums.proofs.Ring.{*ℤ-+ℤ, *ℤ-left-comm, one-*ℤ, +ℤ-mix}
+use Rattle.sums.proofs.Ring.{ring, *ℤ-+ℤ, *ℤ-left-comm, one-*ℤ, +ℤ-mix}
 use Rattle.sums.proofs.Bound.{natAbs-+}
 
 pub sum-suc : (n : ℕ) (f : ℕ → ℤ) → sum (suc n) f ≡ sum n f +ℤ f n
@@ -96,6 +96,21 @@ sum-delta (suc n) k f h = elim (ℕ-discrete n k) [
   | yes e ↦ ap₂ (λ a b. a +ℤ b *ℤ f n) (sum-none n k f (omega arith)) (ap (delta k) e ∙ delta-same k) ∙ simp (+ℤ-idl, one-*ℤ) (ap f e)
   | no e ↦ ap₂ (λ a b. a +ℤ b *ℤ f n) (sum-delta n k f (omega arith)) (delta-other k n e) ∙ simp (zero-*ℤ, +ℤ-idr)
 ]
+
+-- a sum of which one term changes
+pub sum-changed : (n k : ℕ) (f g : ℕ → ℤ) → k < n → ((i : ℕ) → i < n → (i ≡ k → ⊥) → g i ≡ f i) → sum n g ≡ sum n f +ℤ (g k -ℤ f k)
+sum-changed n k f g h same =
+    sum-ext n (λ i l. elim (ℕ-discrete i k) [ yes e ↦ here i e | no e ↦ there i l e ])
+    ∙ sum-+ n f (λ i. delta k i *ℤ (g i -ℤ f i)) ∙ ap (λ z. sum n f +ℤ z) (sum-delta n k (λ i. g i -ℤ f i) h)
+  where
+    here : (i : ℕ) → i ≡ k → g i ≡ f i +ℤ delta k i *ℤ (g i -ℤ f i)
+    here i e = rw (ap (delta k) e ∙ delta-same k) (without (g i) (f i))
+      where
+        without : (a b : ℤ) → a ≡ b +ℤ pos 1 *ℤ (a -ℤ b)
+        without a b = simp ring
+
+    there : (i : ℕ) → i < n → (i ≡ k → ⊥) → g i ≡ f i +ℤ delta k i *ℤ (g i -ℤ f i)
+    there i l e = same i l e ∙ sym (ap (λ d. f i +ℤ d *ℤ (g i -ℤ f i)) (delta-other k i e) ∙ ap (λ z. f i +ℤ z) (zero-*ℤ (g i -ℤ f i)) ∙ +ℤ-idr (f i))
 
 -- a whole turn may start anywhere
 turn : (p r : ℕ) (f : ℕ → ℤ) → 0 < p → sum (p + r) (λ j. f ((j + r) % (p + r))) ≡ sum (p + r) f
@@ -194,3 +209,14 @@ pub natAbs-total : (n : ℕ) (f : ℕ → ℤ) → natAbs (sum n f) ≤ total n 
 unfolding sum total
 natAbs-total zero f = zero-le
 natAbs-total (suc n) f = omega (arith, natAbs-+ (sum n f) (f n), natAbs-total n f)
+
+pub total-changed : (n k : ℕ) (f g : ℕ → ℕ) → k < n → ((i : ℕ) → i < n → (i ≡ k → ⊥) → g i ≡ f i) → total n g + f k ≡ total n f + g k
+unfolding total
+total-changed zero k f g h same = absurd (omega arith)
+total-changed (suc n) k f g h same = elim (ℕ-discrete n k) [
+  | yes e ↦ last e (total-ext n (λ i l. same i (omega arith) (λ q. omega arith)))
+  | no e ↦ omega (arith, total-changed n k f g (omega arith) (λ i l. same i (omega arith)), same n (omega arith) e)
+]
+  where
+    last : n ≡ k → total n g ≡ total n f → total n g + g n + f k ≡ total n f + f n + g k
+    last e t = rw (sym e) (omega arith)

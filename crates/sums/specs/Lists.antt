@@ -1,9 +1,10 @@
 -- Lists by their places: what a lent slice holds. Assumes nothing.
 use Prim.Native.Nat.{ℕ, zero, suc}
 use mathlib.Core.List.{List, [], _∷_, _++_}
-use mathlib.Core.Bool.{Bool, false, cond, _||_}
+use mathlib.Core.Bool.{Bool, true, false, cond, _||_, _&&_}
 use lib.IntN.{ℤ, pos}
-use lib.ListN.{length, getD, drop}
+use lib.ListN.{length, getD, take, drop}
+use Rattle.sums.specs.Sum.{total}
 
 -- the number of y at place j, and 0 past its end
 abbrev pub at : List ℤ → ℕ → ℤ
@@ -27,3 +28,16 @@ seek test (suc n) k = cond (test k) k (seek test n (suc k))
 unfoldable pub some : ℕ → (ℕ → Bool) → Bool
 some zero test = false
 some (suc n) test = some n test || test n
+
+-- whether it holds at all of them
+unfoldable pub every : ℕ → (ℕ → Bool) → Bool
+every zero test = true
+every (suc n) test = every n test && test n
+
+-- at how many of them it holds
+unfoldable pub many : ℕ → (ℕ → Bool) → ℕ
+many n test = total n (λ i. cond (test i) 1 0)
+
+-- vs in the place of what l has from place k on
+unfoldable pub putAt : {A : Type 0} → ℕ → List A → List A → List A
+putAt k vs l = take k l ++ put vs (drop k l)

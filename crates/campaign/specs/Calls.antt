@@ -1,0 +1,228 @@
+-- The campaign's calls, each by one function from all that is handed in to all that is handed back: document 01, "The campaign", "Refusal
+-- numbers", "Order of checks" and "Room". Assumes nothing.
+use mathlib.Core.List.{List, [], _∷_, _++_}
+use mathlib.Core.Bool.{Bool, cond, not, _&&_, _||_}
+use Prim.Native.Nat.{ℕ, _+_, _-_, _*_}
+use lib.Dec.{eqb, ltb, leb}
+use lib.Ieee.{Float, binary64, ofInt, div}
+use lib.IntN.{ℤ, pos, negsuc, natAbs, _+ℤ_, _-ℤ_}
+use lib.ListN.{length, set, replicate}
+use lib.Signed.{leZ}
+use Rattle.sums.specs.Lists.{at, table, put, putAt, seek, every}
+use Rattle.sums.specs.Refusals.{outcome}
+use Rattle.register.specs.Register.{P, wave}
+use Rattle.register.specs.Calls.{tapsChecks}
+use Rattle.response.specs.Response.{response}
+use Rattle.response.specs.Rounding.{rounded}
+use Rattle.response.specs.Calls.{lengthOff, someOut, clearedWide, clearedTags}
+use Rattle.campaign.specs.Record.{standing, overloaded, dead, withdrawn, unseen, stands, daysIn, slot, free, base, sample, eqZ, together}
+use Rattle.campaign.specs.declared.Campaign.{Campaign}
+use Rattle.campaign.specs.declared.Started.{Started}
+use Rattle.campaign.specs.declared.Verdict.{Verdict}
+use Rattle.campaign.specs.declared.Verdict.the-variants as verdict
+use Rattle.campaign.specs.declared.Entered.{Entered}
+use Rattle.campaign.specs.declared.Withdrawn.{Withdrawn}
+use Rattle.campaign.specs.declared.Tally.{Tally}
+use Rattle.campaign.specs.declared.Counts.{Counts}
+use Rattle.campaign.specs.declared.Counts.the-variants as counts
+use Rattle.campaign.specs.declared.Levels.{Levels}
+use Rattle.campaign.specs.declared.Summary.{Summary}
+use Rattle.campaign.specs.declared.Summary.the-variants as summary
+
+-- ---- the causes
+
+-- 9: slot count not 1 to 64
+abbrev pub slotsOut : ℕ → Bool
+slotsOut C = ltb C 1 || ltb 64 C
+
+-- 10: day not 1 to 366
+abbrev pub dayOut : ℕ → Bool
+dayOut d = ltb d 1 || ltb 366 d
+
+-- 15: record does not hold together
+abbrev pub apart : Campaign → List ℤ → List ℤ → Bool
+apart c store sums = not (together c store sums)
+
+-- ---- start: 1, 2, 3, 4, 9, 6; the answer with the record, the store and the sums
+
+abbrev pub startChecks : ℕ → ℕ → ℕ → List ℤ → List ℤ → List (ℕ × Bool)
+startChecks N taps C store sums =
+    tapsChecks N taps ++ (9, slotsOut C) ∷ (6, ltb (length store) (C * P N) || ltb (length sums) (P N)) ∷ []
+
+-- every day unseen, every slot free
+abbrev pub fresh : ℕ → ℕ → ℕ → Campaign
+fresh N taps C = record { order = N; taps = taps; slots = C; days = replicate 366 unseen; table = replicate 64 0 }
+
+unfoldable pub startOutcome : Campaign → ℕ → ℕ → ℕ → List ℤ → List ℤ → Started × List ℤ × List ℤ
+startOutcome c N taps C store sums =
+    outcome (startChecks N taps C store sums) (λ n. (record { answer = n; campaign = c }, store, sums)) (
+      record { answer = 0; campaign = fresh N taps C },
+      clearedWide (C * P N) store,
+      clearedWide (P N) sums,
+    )
+
+-- ---- enter: 15, 10, 5, 7, 11, verdict, 12; the entry with the record, the store and the sums
+
+abbrev pub enterChecks : Campaign → List ℤ → List ℤ → ℕ → List ℤ → List (ℕ × Bool)
+enterChecks c store sums d y =
+    (15, apart c store sums) ∷ (10, dayOut d) ∷ (5, lengthOff (c .order) y) ∷ (7, someOut (length y) (at y)) ∷ (11, stands c d) ∷ []
+
+-- some sample is -8,388,608 or 8,388,607: the first such place, or the length where there is none
+abbrev pub rail : ℤ → Bool
+rail z = eqZ z (negsuc 8388607) || eqZ z (pos 8388607)
+
+abbrev pub railPlace : List ℤ → ℕ
+railPlace y = seek (λ j. rail (at y j)) (length y) 0
+
+-- all samples equal
+abbrev pub still : List ℤ → Bool
+still y = every (length y) (λ j. eqZ (at y j) (at y 0))
+
+-- day d in the state q
+abbrev pub marked : Campaign → ℕ → ℕ → Campaign
+marked c d q = record { order = c .order; taps = c .taps; slots = c .slots; days = set (c .days) (d - 1) q; table = c .table }
+
+-- and slot s with the day t
+abbrev pub filed : Campaign → ℕ → ℕ → ℕ → ℕ → Campaign
+filed c d q s t = record { order = c .order; taps = c .taps; slots = c .slots; days = set (c .days) (d - 1) q; table = set (c .table) s t }
+
+abbrev pub entered : Campaign → ℕ → Verdict → Entered
+entered c d v = record { entry = record { day = d; verdict = v }; campaign = c }
+
+-- the lowest-numbered free slot
+abbrev pub lowestFree : Campaign → ℕ
+lowestFree c = seek (free c) (c .slots) 0
+
+-- kept: it goes to that slot and is added to the sums
+abbrev pub keptOutcome : Campaign → List ℤ → List ℤ → ℕ → List ℤ → Entered × List ℤ × List ℤ
+keptOutcome c store sums d y = (
+  entered (filed c d standing (lowestFree c) d) d (verdict.Kept (lowestFree c)),
+  putAt (base c (lowestFree c)) y store,
+  put (table (P (c .order)) (λ j. at sums j +ℤ at y j)) sums,
+)
+
+-- the verdict, and 12 after it: C days stand
+abbrev pub judgedOutcome : Campaign → List ℤ → List ℤ → ℕ → List ℤ → Entered × List ℤ × List ℤ
+judgedOutcome c store sums d y =
+    cond (ltb (railPlace y) (length y)) (entered (marked c d overloaded) d (verdict.Overloaded (railPlace y)), store, sums)
+    (cond (still y) (entered (marked c d dead) d verdict.Dead, store, sums)
+    (outcome ((12, eqb (daysIn c standing) (c .slots)) ∷ []) (λ n. (entered c d (verdict.Refused n), store, sums)) (keptOutcome c store sums d y)))
+
+unfoldable pub enterOutcome : Campaign → List ℤ → List ℤ → ℕ → List ℤ → Entered × List ℤ × List ℤ
+enterOutcome c store sums d y =
+    outcome (enterChecks c store sums d y) (λ n. (entered c d (verdict.Refused n), store, sums)) (judgedOutcome c store sums d y)
+
+-- ---- withdraw: 15, 10, 13; the answer with the record, the store and the sums
+
+abbrev pub withdrawChecks : Campaign → List ℤ → List ℤ → ℕ → List (ℕ × Bool)
+withdrawChecks c store sums d = (15, apart c store sums) ∷ (10, dayOut d) ∷ (13, not (stands c d)) ∷ []
+
+abbrev pub slotOfDay : Campaign → ℕ → ℕ
+slotOfDay c d = seek (λ s. eqb (slot c s) d) (c .slots) 0
+
+-- its samples leave the sums, its slot becomes free and holds zeros
+abbrev pub withdrawnOutcome : Campaign → List ℤ → List ℤ → ℕ → Withdrawn × List ℤ × List ℤ
+withdrawnOutcome c store sums d = (
+  record { answer = 0; campaign = filed c d withdrawn (slotOfDay c d) 0 },
+  putAt (base c (slotOfDay c d)) (table (P (c .order)) (λ _. pos 0)) store,
+  put (table (P (c .order)) (λ j. at sums j -ℤ sample c store (slotOfDay c d) j)) sums,
+)
+
+unfoldable pub withdrawOutcome : Campaign → List ℤ → List ℤ → ℕ → Withdrawn × List ℤ × List ℤ
+withdrawOutcome c store sums d =
+    outcome (withdrawChecks c store sums d) (λ n. (record { answer = n; campaign = c }, store, sums)) (withdrawnOutcome c store sums d)
+
+-- ---- counts: 15
+
+abbrev pub tally : Campaign → Tally
+tally c =
+    record {
+      unseen = daysIn c unseen;
+      standing = daysIn c standing;
+      overloaded = daysIn c overloaded;
+      dead = daysIn c dead;
+      withdrawn = daysIn c withdrawn;
+    }
+
+unfoldable pub countsOutcome : Campaign → List ℤ → List ℤ → Counts
+countsOutcome c store sums = outcome ((15, apart c store sums) ∷ []) counts.Refused (counts.Counted (tally c))
+
+-- ---- response: 15, 6, 14; the answer, r, the mean, the wide room and the tags
+
+abbrev pub workShort : ℕ → List ℤ → List ℕ → Bool
+workShort N room tags = ltb (length room) (P N + 1) || ltb (length tags) (2 * P N)
+
+abbrev pub responseChecks : Campaign → List ℤ → List ℤ → List ℤ → List ℤ → List ℤ → List ℕ → List (ℕ × Bool)
+responseChecks c store sums r mean room tags =
+    (15, apart c store sums)
+    ∷ (6, ltb (length r) (P (c .order)) || ltb (length mean) (P (c .order)) || workShort (c .order) room tags)
+    ∷ (14, eqb (daysIn c standing) 0)
+    ∷ []
+
+-- r worked from the sums; r over (P+1)·n, n days standing
+abbrev pub worked : Campaign → List ℤ → ℕ → ℤ
+worked c sums = response (P (c .order)) (wave (c .order) (c .taps)) (at sums)
+
+abbrev pub divisor : Campaign → ℕ
+divisor c = (P (c .order) + 1) * daysIn c standing
+
+abbrev pub meanAt : Campaign → List ℤ → ℕ → ℤ
+meanAt c sums k = rounded (worked c sums k) (divisor c)
+
+unfoldable pub responseOutcome : Campaign → List ℤ → List ℤ → List ℤ → List ℤ → List ℤ → List ℕ → ℕ × List ℤ × List ℤ × List ℤ × List ℕ
+responseOutcome c store sums r mean room tags =
+    outcome (responseChecks c store sums r mean room tags) (λ n. (n, r, mean, room, tags)) (
+      0,
+      put (table (P (c .order)) (worked c sums)) r,
+      put (table (P (c .order)) (meanAt c sums)) mean,
+      clearedWide (P (c .order) + 1) room,
+      clearedTags (2 * P (c .order)) tags,
+    )
+
+-- ---- summary: 15, 6, then nothing stands; the levels, the wide room and the tags
+
+-- the first place of the n at which f is at least as large as at every other
+abbrev pub largestAt : ℕ → (ℕ → ℤ) → ℕ
+largestAt n f = seek (λ k. every n (λ i. leZ (f i) (f k))) n 0
+
+-- the exact whole number made a double and divided once
+unfoldable pub level : ℤ → ℕ → Float
+level z d = div binary64 (ofInt binary64 z) (ofInt binary64 (pos d))
+
+-- highest r, lowest r, and r at the peak, the first place of the largest |r|
+abbrev pub levelsOf : ℕ → (ℕ → ℤ) → ℕ → Levels
+levelsOf n r d =
+    record {
+      highest = level (r (largestAt n r)) d;
+      lowest = level (r (largestAt n (λ k. pos 0 -ℤ r k))) d;
+      peak = level (r (largestAt n (λ k. pos (natAbs (r k))))) d;
+    }
+
+abbrev pub summaryChecks : Campaign → List ℤ → List ℤ → List ℤ → List ℕ → List (ℕ × Bool)
+summaryChecks c store sums room tags = (15, apart c store sums) ∷ (6, workShort (c .order) room tags) ∷ []
+
+unfoldable pub summaryOutcome : Campaign → List ℤ → List ℤ → List ℤ → List ℕ → Summary × List ℤ × List ℕ
+summaryOutcome c store sums room tags =
+    outcome (summaryChecks c store sums room tags) (λ n. (summary.Refused n, room, tags))
+    (cond (eqb (daysIn c standing) 0) (summary.Nothing, room, tags) (
+      summary.Measured (levelsOf (P (c .order)) (worked c sums) (divisor c)),
+      clearedWide (P (c .order) + 1) room,
+      clearedTags (2 * P (c .order)) tags,
+    ))
+
+-- ---- this paper's number for each case of an answer: 0 is accepted
+
+abbrev pub verdictNumber : Verdict → ℕ
+verdictNumber (verdict.Kept s) = 0
+verdictNumber (verdict.Overloaded p) = 0
+verdictNumber verdict.Dead = 0
+verdictNumber (verdict.Refused n) = n
+
+abbrev pub countsNumber : Counts → ℕ
+countsNumber (counts.Counted t) = 0
+countsNumber (counts.Refused n) = n
+
+abbrev pub summaryNumber : Summary → ℕ
+summaryNumber summary.Nothing = 0
+summaryNumber (summary.Measured l) = 0
+summaryNumber (summary.Refused n) = n

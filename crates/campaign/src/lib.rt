@@ -1,0 +1,78 @@
+// A campaign of days: the record, and what each call answers.
+
+// A year of nights.
+pub const DAYS: usize = 366;
+
+// The largest number of slots.
+pub const MOST_SLOTS: usize = 64;
+
+// A day's state is 0 unseen, 1 standing, 2 overloaded, 3 dead, 4 withdrawn; a slot holds its day, or 0 where it is free.
+pub struct Campaign {
+    pub order: u32,
+    pub taps: u32,
+    pub slots: u32,
+    pub days: [u8; 366],
+    pub table: [u16; 64],
+}
+
+// A start's answer, and the record that it made, or that it was given.
+pub struct Started {
+    pub answer: u32,
+    pub campaign: Campaign,
+}
+
+pub enum Verdict {
+    // Kept in this slot.
+    Kept(usize),
+    // At a rail, first at this place.
+    Overloaded(usize),
+    // All samples equal.
+    Dead,
+    // The refusal's number.
+    Refused(u32),
+}
+
+// An entry's answer: the verdict beside the day.
+pub struct Entry {
+    pub day: u32,
+    pub verdict: Verdict,
+}
+
+pub struct Entered {
+    pub entry: Entry,
+    pub campaign: Campaign,
+}
+
+pub struct Withdrawn {
+    pub answer: u32,
+    pub campaign: Campaign,
+}
+
+// The days in each of the five states.
+pub struct Tally {
+    pub unseen: u32,
+    pub standing: u32,
+    pub overloaded: u32,
+    pub dead: u32,
+    pub withdrawn: u32,
+}
+
+pub enum Counts {
+    Counted(Tally),
+    // The refusal's number.
+    Refused(u32),
+}
+
+// The highest r, the lowest r and r at the peak, each over (P+1)·n.
+pub struct Levels {
+    pub highest: f64,
+    pub lowest: f64,
+    pub peak: f64,
+}
+
+pub enum Summary {
+    Nothing,
+    Measured(Levels),
+    // The refusal's number.
+    Refused(u32),
+}

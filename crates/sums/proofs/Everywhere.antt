@@ -1,0 +1,82 @@
+-- A test that holds at every place, the places at which one holds counted, and a list with another put into it from some place on.
+-- Assumes nothing.
+use mathlib.Core.Path.{_≡_, refl, sym, ap, ap₂, subst, _∙_}
+use mathlib.Core.Bool.{Bool, true, false, cond, not, _&&_, _||_}
+use mathlib.Core.List.{List, _++_}
+use Prim.Native.Nat.{ℕ, zero, suc, _+_, _-_, _≤_, _<_}
+use native.Mathlib.Decide.{ℕ-discrete, decLt}
+use native.Mathlib.Omega.{arith}
+use lib.Dec.{T}
+use lib.ListN.{length, getD, take, drop, length-append, length-drop, List·getD-append}
+use lib.Seq.{length-take-le, getD-append-add, getD-drop, getD-take}
+use Rattle.sums.specs.Sum.{total}
+use Rattle.sums.specs.Lists.{every, many, put, putAt}
+use Rattle.sums.proofs.Sum.{total-ext}
+use Rattle.sums.proofs.Tables.{length-put}
+
+-- ---- truth
+
+pub and-true : (a b : Bool) → a && b ≡ true → (a ≡ true) × (b ≡ true)
+and-true true b h = (refl, h)
+and-true false b h = absurd (subst T (sym h) tt)
+
+pub both-true : {a b : Bool} → a ≡ true → b ≡ true → a && b ≡ true
+both-true p q = ap₂ _&&_ p q
+
+-- ---- every
+
+pub every-at : (n : ℕ) (test : ℕ → Bool) → every n test ≡ true → (i : ℕ) → i < n → test i ≡ true
+unfolding every
+every-at zero test h i l = absurd (omega arith)
+every-at (suc n) test h i l =
+    let two = and-true (every n test) (test n) h in
+    elim (ℕ-discrete i n) [ yes e ↦ ap test e ∙ two .1 | no e ↦ every-at n test (two .0) i (omega arith) ]
+
+pub every-all : (n : ℕ) (test : ℕ → Bool) → ((i : ℕ) → i < n → test i ≡ true) → every n test ≡ true
+unfolding every
+every-all zero test h = refl
+every-all (suc n) test h = both-true (every-all n test (λ i l. h i (omega arith))) (h n (omega arith))
+
+-- ---- many
+
+pub many-ext : (n : ℕ) {f g : ℕ → Bool} → ((i : ℕ) → i < n → f i ≡ g i) → many n f ≡ many n g
+unfolding many
+many-ext n h = total-ext n (λ i l. ap (λ b. cond b 1 0) (h i l))
+
+-- ---- put from some place on
+
+module _ {A : Type 0} (k : ℕ) (vs l : List A) (fits : k + length vs ≤ length l) where
+  pub length-putAt : length (putAt k vs l) ≡ length l
+  unfolding putAt
+  length-putAt =
+      length-append (take k l) (put vs (drop k l))
+      ∙ ap₂ _+_ (length-take-le k l (omega arith)) (length-put vs (drop k l) (omega (arith, length-drop k l)) ∙ length-drop k l)
+      ∙ back
+    where
+      back : k + (length l - k) ≡ length l
+      back = omega arith
+
+  pub putAt-before : (i : ℕ) (z : A) → i < k → getD (putAt k vs l) i z ≡ getD l i z
+  unfolding putAt
+  putAt-before i z h =
+      List·getD-append (take k l) (put vs (drop k l)) z i (omega (arith, length-take-le k l (omega arith))) ∙ getD-take k l i z h
+
+  -- from place k on
+  past : (i : ℕ) (z : A) → getD (putAt k vs l) (k + i) z ≡ getD (put vs (drop k l)) i z
+  unfolding putAt
+  past i z =
+      ap (λ n. getD (take k l ++ put vs (drop k l)) (n + i) z) (sym (length-take-le k l (omega arith)))
+      ∙ getD-append-add (take k l) (put vs (drop k l)) i z
+
+  pub putAt-here : (i : ℕ) (z : A) → i < length vs → getD (putAt k vs l) (k + i) z ≡ getD vs i z
+  unfolding put
+  putAt-here i z h = past i z ∙ List·getD-append vs (drop (length vs) (drop k l)) z i h
+
+  pub putAt-after : (i : ℕ) (z : A) → length vs ≤ i → getD (putAt k vs l) (k + i) z ≡ getD l (k + i) z
+  unfolding put
+  putAt-after i z h =
+      let e : length vs + (i - length vs) ≡ i = omega arith in
+      past i z
+      ∙ ap (λ n. getD (vs ++ drop (length vs) (drop k l)) n z) (sym e)
+      ∙ getD-append-add vs (drop (length vs) (drop k l)) (i - length vs) z
+      ∙ getD-drop (length vs) (drop k l) (i - length vs) z ∙ ap (λ n. getD (drop k l) n z) e ∙ getD-drop k l i z

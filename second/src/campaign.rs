@@ -1,0 +1,110 @@
+//! A campaign's record, the memory lent to it, and its start.
+
+use crate::holding::holds_together;
+use crate::refusal::*;
+use crate::register::{check_taps, period};
+
+pub const DAYS: usize = 366;
+pub const MOST_SLOTS: usize = 64;
+pub const FREE: u16 = 0;
+
+#[derive(Clone, Copy, Debug, PartialEq, Eq)]
+pub enum DayState {
+    Unseen,
+    Standing,
+    Overloaded,
+    Dead,
+    Withdrawn,
+}
+
+/// `days[d - 1]` is day d's state; `table[s]` is the day in slot s, or `FREE`.
+#[derive(Clone, Debug, PartialEq, Eq)]
+pub struct Campaign {
+    pub order: u32,
+    pub taps: u32,
+    pub slots: u32,
+    pub days: [DayState; DAYS],
+    pub table: [u16; MOST_SLOTS],
+}
+
+/// The caller's store of C·P samples and P wide sums.
+#[derive(Clone, Debug, PartialEq, Eq)]
+pub struct Lent {
+    pub store: Vec<i32>,
+    pub sums: Vec<i64>,
+}
+
+/// Refusals 1, 2, 3, 4, 9: what a start asks before any memory is looked at.
+pub fn check_start(order: u32, taps: u32, slots: u32) -> Result<(), Refusal> {
+    check_taps(order, taps)?;
+    if !(1..=MOST_SLOTS as u32).contains(&slots) {
+        return Err(SLOT_COUNT);
+    }
+    Ok(())
+}
+
+/// Refusals 1, 2, 3, 4, 9, 6.
+pub fn start(order: u32, taps: u32, slots: u32, lent: &mut Lent) -> Result<Campaign, Refusal> {
+    check_start(order, taps, slots)?;
+    let p = period(order);
+    let store_length = slots as usize * p;
+    if lent.store.len() < store_length || lent.sums.len() < p {
+        return Err(ROOM_TOO_SHORT);
+    }
+    lent.store[..store_length].fill(0);
+    lent.sums[..p].fill(0);
+    let days = [DayState::Unseen; DAYS];
+    Ok(Campaign {
+        order,
+        taps,
+        slots,
+        days,
+        table: [FREE; MOST_SLOTS],
+    })
+}
+
+impl Campaign {
+    /// P, for a record that holds together.
+    pub fn p(&self) -> usize {
+        period(self.order)
+    }
+
+    /// The state of a day from 1 to 366.
+    pub fn state(&self, day: u16) -> DayState {
+        self.days[day as usize - 1]
+    }
+
+    pub fn set_state(&mut self, day: u16, state: DayState) {
+        self.days[day as usize - 1] = state;
+    }
+
+    /// How many days are in this state.
+    pub fn days_in(&self, state: DayState) -> usize {
+        self.days.iter().filter(|&&s| s == state).count()
+    }
+
+    /// The lowest-numbered slot whose table place holds `content`.
+    pub fn slot_holding(&self, content: u16) -> Option<usize> {
+        self.table[..self.slots as usize]
+            .iter()
+            .position(|&d| d == content)
+    }
+
+    /// Refusal 15.
+    pub fn check_holding(&self, lent: &Lent) -> Result<(), Refusal> {
+        if holds_together(self, lent) {
+            Ok(())
+        } else {
+            Err(DOES_NOT_HOLD_TOGETHER)
+        }
+    }
+}
+
+/// Refusal 10.
+pub fn check_day(day: u16) -> Result<(), Refusal> {
+    if (1..=DAYS).contains(&(day as usize)) {
+        Ok(())
+    } else {
+        Err(DAY_OUT_OF_RANGE)
+    }
+}

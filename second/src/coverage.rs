@@ -1,0 +1,73 @@
+//! Counts of what a set of logs met, and what it did not meet.
+
+use std::collections::BTreeMap;
+
+#[derive(Default)]
+pub struct Coverage {
+    times: BTreeMap<String, usize>,
+}
+
+/// Everything a log can meet, by family.
+const EXPECTED: [(&str, &str); 5] = [
+    (
+        "start",
+        "0 order 2, 0 order 3, 0 order 4, 0 order 5, 0 order 6, 0 order 7, 0 order 8, \
+         0 order 9, 1 below, 1 above, 2, 2 just, 3, 4, 9, 9 at 0 slots, 9 at 65 slots, \
+         17 for the order, 17 at order 10, 17 for the slots, 17 at 9 slots, 17 at 64 slots, \
+         17 for both",
+    ),
+    (
+        "enter",
+        "kept on unseen, kept on overloaded, kept on dead, kept on withdrawn, \
+         overload on unseen, overload on overloaded, overload on dead, overload on withdrawn, \
+         overload when full, dead on unseen, dead on overloaded, dead on dead, \
+         dead on withdrawn, dead when full, 5, 5 and standing, 10, 10 and short, 11, \
+         11 and at a rail, 11 and constant, 12",
+    ),
+    (
+        "withdraw",
+        "0, 10, 13 unseen, 13 overloaded, 13 dead, 13 withdrawn",
+    ),
+    (
+        "response",
+        "0 of 1, 0 of 2, 0 of 3, 0 of 4, 0 of 5, 0 of 6, 0 of 7, 0 of 8, half up, half down, 14",
+    ),
+    (
+        "bad",
+        "no input, unknown first, unknown in a day, unknown outside, kind 2 first, \
+         kind 3 first, kind 4 first, kind 5 first, kind 6 first, kind 1 in a day, \
+         kind 2 in a day, kind 5 in a day, kind 6 in a day, kind 1 outside, kind 3 outside, \
+         kind 4 outside, cut kind 1, cut kind 2, cut kind 3, cut kind 5, beyond P, \
+         end in open day",
+    ),
+];
+
+impl Coverage {
+    pub fn add(&mut self, names: Vec<String>) {
+        for name in names {
+            *self.times.entry(name).or_default() += 1;
+        }
+    }
+
+    /// One line a family, then one line of what was not met.
+    pub fn lines(&self) -> Vec<String> {
+        let mut lines = Vec::new();
+        let mut missing = Vec::new();
+        for (family, names) in EXPECTED {
+            let mut counted = Vec::new();
+            for name in names.split(", ") {
+                let times = self.times.get(&format!("{family}: {name}"));
+                if times.is_none() {
+                    missing.push(format!("{family} {name}"));
+                }
+                counted.push(format!("{name}={}", times.unwrap_or(&0)));
+            }
+            lines.push(format!("{family}: {}", counted.join(", ")));
+        }
+        if missing.is_empty() {
+            missing.push("none".to_string());
+        }
+        lines.push(format!("not met: {}", missing.join(", ")));
+        lines
+    }
+}

@@ -1,0 +1,94 @@
+//! Entering a day's recording and withdrawing a standing day.
+
+use crate::campaign::{check_day, Campaign, DayState, Lent, FREE};
+use crate::refusal::*;
+use crate::response::{in_sample_range, HIGHEST, LOWEST};
+
+#[derive(Clone, Copy, Debug, PartialEq, Eq)]
+pub enum Verdict {
+    Kept { slot: usize },
+    Overloaded { place: usize },
+    Dead,
+    Refused(Refusal),
+}
+
+#[derive(Clone, Copy, Debug, PartialEq, Eq)]
+pub struct Entry {
+    pub day: u16,
+    pub verdict: Verdict,
+}
+
+/// Overloaded at its first rail, otherwise dead, otherwise nothing against it.
+pub fn fault(recording: &[i32]) -> Option<Verdict> {
+    let rail = |&v: &i32| v == LOWEST || v == HIGHEST;
+    if let Some(place) = recording.iter().position(rail) {
+        return Some(Verdict::Overloaded { place });
+    }
+    let first = recording[0];
+    recording
+        .iter()
+        .all(|&v| v == first)
+        .then_some(Verdict::Dead)
+}
+
+impl Campaign {
+    /// Refusals 15, 10, 5, 7, 11, then the verdict, then 12.
+    pub fn enter(&mut self, lent: &mut Lent, day: u16, recording: &[i32]) -> Entry {
+        let verdict = match self.judge(lent, day, recording) {
+            Ok(verdict) => verdict,
+            Err(refusal) => Verdict::Refused(refusal),
+        };
+        match verdict {
+            Verdict::Kept { slot } => self.keep(lent, day, slot, recording),
+            Verdict::Overloaded { .. } => self.set_state(day, DayState::Overloaded),
+            Verdict::Dead => self.set_state(day, DayState::Dead),
+            Verdict::Refused(_) => {}
+        }
+        Entry { day, verdict }
+    }
+
+    fn judge(&self, lent: &Lent, day: u16, recording: &[i32]) -> Result<Verdict, Refusal> {
+        self.check_holding(lent)?;
+        check_day(day)?;
+        if recording.len() != self.p() {
+            return Err(NOT_P_LONG);
+        }
+        if !recording.iter().all(|&v| in_sample_range(i64::from(v))) {
+            return Err(VALUE_OUTSIDE_RANGE);
+        }
+        if self.state(day) == DayState::Standing {
+            return Err(ALREADY_STANDING);
+        }
+        if let Some(verdict) = fault(recording) {
+            return Ok(verdict);
+        }
+        let slot = self.slot_holding(FREE).ok_or(ALL_SLOTS_USED)?;
+        Ok(Verdict::Kept { slot })
+    }
+
+    fn keep(&mut self, lent: &mut Lent, day: u16, slot: usize, recording: &[i32]) {
+        let p = self.p();
+        lent.store[slot * p..(slot + 1) * p].copy_from_slice(recording);
+        for (sum, &sample) in lent.sums.iter_mut().zip(recording) {
+            *sum += i64::from(sample);
+        }
+        self.table[slot] = day;
+        self.set_state(day, DayState::Standing);
+    }
+
+    /// Refusals 15, 10, 13.
+    pub fn withdraw(&mut self, lent: &mut Lent, day: u16) -> Result<(), Refusal> {
+        self.check_holding(lent)?;
+        check_day(day)?;
+        let slot = self.slot_holding(day).ok_or(NOT_STANDING)?;
+        let p = self.p();
+        let samples = &mut lent.store[slot * p..(slot + 1) * p];
+        for (sum, sample) in lent.sums.iter_mut().zip(samples) {
+            *sum -= i64::from(*sample);
+            *sample = 0;
+        }
+        self.table[slot] = FREE;
+        self.set_state(day, DayState::Withdrawn);
+        Ok(())
+    }
+}

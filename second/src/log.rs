@@ -1,0 +1,53 @@
+//! Reading a log: each record in turn, and every way in which one is bad.
+
+use crate::record::{body_length, decode, Record, SAMPLE};
+use crate::run::{After, Answer, Run};
+
+/// What the log program prints for this input.
+pub fn answer(input: &[u8]) -> Answer {
+    let mut run = Run::default();
+    let mut at = 0;
+    while at < input.len() {
+        match next_record(&run, &input[at..]) {
+            Ok((record, length)) => {
+                if let After::Stop = run.carry_out(record) {
+                    return run.answer;
+                }
+                at += length;
+            }
+            Err(why) => return bad(run, &why, at),
+        }
+    }
+    if input.is_empty() {
+        return bad(run, "no input", 0);
+    }
+    if run.in_open_day() {
+        return bad(run, "end in open day", input.len());
+    }
+    run.answer
+}
+
+/// The record at the front of `rest` and its length with its kind byte, or why it is bad.
+fn next_record(run: &Run, rest: &[u8]) -> Result<(Record, usize), String> {
+    let kind = rest[0];
+    let Some(length) = body_length(kind) else {
+        return Err(format!("unknown {}", run.place()));
+    };
+    if !run.allows(kind) {
+        return Err(format!("kind {kind} {}", run.place()));
+    }
+    if kind == SAMPLE && run.open_day_is_full() {
+        return Err("beyond P".to_string());
+    }
+    match rest.get(1..1 + length) {
+        Some(body) => Ok((decode(kind, body), 1 + length)),
+        None => Err(format!("cut kind {kind}")),
+    }
+}
+
+fn bad(run: Run, why: &str, offset: usize) -> Answer {
+    let mut answer = run.answer;
+    answer.line(format_args!("bad {offset}"));
+    answer.met.push(format!("bad: {why}"));
+    answer
+}

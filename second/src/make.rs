@@ -1,0 +1,168 @@
+//! Random logs: whole campaigns, refused starts, damaged ones and garbage.
+
+use crate::campaign::DAYS;
+use crate::damage::damaged;
+use crate::record::{encode, Record};
+use crate::recordings::{kept, recording};
+use crate::register::{check_form, check_taps, default_taps};
+use crate::rng::Rng;
+
+/// A log as its encoded records, so that damage can be done between them.
+pub type Pieces = Vec<Vec<u8>>;
+
+/// Log `number` of the logs that belong to `seed`.
+pub fn log(seed: u64, number: u64) -> Vec<u8> {
+    let rng = &mut Rng::for_log(seed, number);
+    match rng.below(40) {
+        0..=9 => refused_start(rng),
+        10..=21 => campaign(rng, 9),
+        22 => whole_year(rng),
+        23..=37 => {
+            let pieces = campaign(rng, 5);
+            damaged(rng, pieces)
+        }
+        38 => vec![garbage(rng)],
+        _ => vec![],
+    }
+    .concat()
+}
+
+fn garbage(rng: &mut Rng) -> Vec<u8> {
+    let small_kinds = rng.once_in(2);
+    let length = rng.below(200);
+    let byte = |rng: &mut Rng| {
+        if small_kinds {
+            rng.below(8) as u8
+        } else {
+            rng.byte()
+        }
+    };
+    (0..length).map(|_| byte(rng)).collect()
+}
+
+fn start(order: u8, taps: u16, slots: u8) -> Vec<u8> {
+    encode(Record::Start { order, taps, slots })
+}
+
+/// Random taps that are accepted for the order or, asked otherwise, refused with 4.
+fn random_taps(rng: &mut Rng, order: u32, maximal: bool) -> u32 {
+    loop {
+        let taps = rng.below(1 << order) as u32;
+        let formed = check_form(order, taps).is_ok();
+        if formed && check_taps(order, taps).is_ok() == maximal {
+            return taps;
+        }
+    }
+}
+
+fn accepted_taps(rng: &mut Rng, order: u32) -> u32 {
+    if rng.once_in(2) {
+        default_taps(order).expect("the order is from 2 to 16")
+    } else {
+        random_taps(rng, order, true)
+    }
+}
+
+/// A start that is refused for one reason or several, sometimes with more behind it;
+/// a few with everything random. The edge of each rule comes often.
+fn refused_start(rng: &mut Rng) -> Pieces {
+    let sort = rng.below(8);
+    let any_order = rng.between(2, 16) as u32;
+    let order = match sort {
+        0 => rng.pick(&[0, 1, 17, 18, 255]),
+        1 => rng.between(2, 15) as u32,
+        5 if rng.once_in(3) => 10,
+        5 => rng.between(10, 16) as u32,
+        6 => rng.between(2, 9) as u32,
+        7 => rng.below(20) as u32,
+        _ => any_order,
+    };
+    let taps = match sort {
+        0 => rng.pick(&[0, 1, 3, 5, 65535]),
+        1 if rng.once_in(3) => 1 << order,
+        1 => (1 << order) + rng.below(65536 - (1 << order)) as u32,
+        2 => 2 * rng.below(1 << (order - 1)) as u32,
+        3 => random_taps(rng, order, false),
+        7 => rng.below(65536) as u32,
+        _ => accepted_taps(rng, order),
+    };
+    let too_many = rng.between(65, 255) as u8;
+    let too_many_here = rng.between(9, 64) as u8;
+    let slots = match sort {
+        4 => rng.pick(&[0, 65, too_many]),
+        5 => rng.pick(&[1, 8, too_many_here]),
+        6 => rng.pick(&[9, 64, too_many_here]),
+        _ => rng.pick(&[0, 1, 8, 9, 64, 65, too_many]),
+    };
+    let mut pieces = vec![start(order as u8, taps as u16, slots)];
+    if rng.once_in(3) {
+        pieces.push(encode(Record::Ask));
+        pieces.push(garbage(rng));
+    }
+    pieces
+}
+
+/// An open day, its samples and its entry.
+fn entry(day: u16, samples: &[i32]) -> Pieces {
+    let mut pieces = vec![encode(Record::Open(day))];
+    pieces.extend(samples.iter().map(|&v| encode(Record::Sample(v))));
+    pieces.push(encode(Record::Enter));
+    pieces
+}
+
+/// Few days, so that they meet again; now and then one that is no day.
+fn day(rng: &mut Rng, few: &[u16]) -> u16 {
+    if rng.once_in(12) {
+        rng.pick(&[0, 367, 368, 65535, 32768, 366])
+    } else {
+        rng.pick(few)
+    }
+}
+
+/// An accepted start and calls of every sort; it ends with an ask.
+fn campaign(rng: &mut Rng, highest_order: u32) -> Pieces {
+    let order = rng.between(2, highest_order as i32) as u32;
+    let taps = accepted_taps(rng, order);
+    let slots = rng.between(1, 8) as u8;
+    let mut few: Vec<u16> = (0..slots + 2).map(|_| 1 + rng.below(DAYS) as u16).collect();
+    few.extend([1, 366]);
+    let most_calls = if order < 6 { 60 } else { 24 };
+    let mut pieces = vec![start(order as u8, taps as u16, slots)];
+    if rng.once_in(2) {
+        pieces.extend(full_slots(rng, order, taps, &few[..slots as usize]));
+    }
+    for _ in 0..rng.below(most_calls) {
+        let day = day(rng, &few);
+        match rng.below(10) {
+            0..=5 => pieces.extend(entry(day, &recording(rng, order, taps))),
+            6..=7 => pieces.push(encode(Record::Withdraw(day))),
+            _ => pieces.push(encode(Record::Ask)),
+        }
+    }
+    pieces.push(encode(Record::Ask));
+    pieces
+}
+
+/// As many kept days as there are slots, so that the calls after it meet no free slot.
+fn full_slots(rng: &mut Rng, order: u32, taps: u32, days: &[u16]) -> Pieces {
+    days.iter()
+        .flat_map(|&day| entry(day, &kept(rng, order, taps)))
+        .collect()
+}
+
+/// Every day of the year entered at the smallest order, so that all counts grow large.
+fn whole_year(rng: &mut Rng) -> Pieces {
+    let slots = rng.between(1, 8) as u8;
+    let mut pieces = vec![start(2, 3, slots)];
+    for day in 1..=DAYS as u16 {
+        pieces.extend(entry(day, &recording(rng, 2, 3)));
+        if rng.once_in(3) {
+            pieces.push(encode(Record::Withdraw(day)));
+        }
+        if rng.once_in(40) {
+            pieces.push(encode(Record::Ask));
+        }
+    }
+    pieces.push(encode(Record::Ask));
+    pieces
+}

@@ -1,0 +1,94 @@
+//! One recording turned into a response, a predicted recording, the mean.
+
+use crate::refusal::*;
+use crate::register::{check_taps, period, signal};
+use crate::room::Room;
+
+pub const LOWEST: i32 = -8_388_608;
+pub const HIGHEST: i32 = 8_388_607;
+
+pub fn in_sample_range(value: i64) -> bool {
+    (i64::from(LOWEST)..=i64::from(HIGHEST)).contains(&value)
+}
+
+/// For each k the sum over j of values(j)·cycle(j-k).
+/// The cycle is laid out twice, so that each shift is one plain slice.
+fn sums_at_all_shifts(values: &[i64], cycle: &[i64]) -> Vec<i64> {
+    let p = cycle.len();
+    let twice = [cycle, cycle].concat();
+    let at_shift = |k: usize| {
+        let shifted = &twice[p - k..2 * p - k];
+        values.iter().zip(shifted).map(|(v, x)| v * x).sum()
+    };
+    (0..p).map(at_shift).collect()
+}
+
+/// r(k) = c(k) minus the sum of all y(j), for accepted taps and P numbers.
+pub fn direct_response(order: u32, taps: u32, y: &[i64]) -> Vec<i64> {
+    let total: i64 = y.iter().sum();
+    let c = sums_at_all_shifts(y, &signal(order, taps));
+    c.iter().map(|c| c - total).collect()
+}
+
+/// Writes r(0) to r(P-1). Refusals 1 to 7.
+pub fn one_recording(
+    order: u32,
+    taps: u32,
+    recording: &[i32],
+    r: &mut [i64],
+    room: &mut Room,
+) -> Result<(), Refusal> {
+    check_taps(order, taps)?;
+    let p = period(order);
+    if recording.len() != p {
+        return Err(NOT_P_LONG);
+    }
+    if r.len() < p {
+        return Err(ROOM_TOO_SHORT);
+    }
+    room.check(p)?;
+    let y: Vec<i64> = recording.iter().map(|&v| i64::from(v)).collect();
+    if !y.iter().all(|&v| in_sample_range(v)) {
+        return Err(VALUE_OUTSIDE_RANGE);
+    }
+    r[..p].copy_from_slice(&direct_response(order, taps, &y));
+    room.clear(p);
+    Ok(())
+}
+
+/// Writes y(j), the sum over i of h(i)·x(j-i). Refusals 1 to 8.
+pub fn predict(order: u32, taps: u32, h: &[i32], y: &mut [i32]) -> Result<(), Refusal> {
+    check_taps(order, taps)?;
+    let p = period(order);
+    if h.len() != p {
+        return Err(NOT_P_LONG);
+    }
+    if y.len() < p {
+        return Err(ROOM_TOO_SHORT);
+    }
+    let h: Vec<i64> = h.iter().map(|&v| i64::from(v)).collect();
+    if !h.iter().all(|&v| in_sample_range(v)) {
+        return Err(VALUE_OUTSIDE_RANGE);
+    }
+    // x(j-i) is place i-j of the signal read backwards in time.
+    let mut backwards = signal(order, taps);
+    backwards[1..].reverse();
+    let predicted = sums_at_all_shifts(&h, &backwards);
+    if !predicted.iter().all(|&v| in_sample_range(v)) {
+        return Err(PREDICTED_OUTSIDE_RANGE);
+    }
+    for (place, value) in y.iter_mut().zip(predicted) {
+        *place = value as i32;
+    }
+    Ok(())
+}
+
+/// r divided by a positive divisor, to nearest, halves away from zero.
+pub fn mean(r: i64, divisor: i64) -> i64 {
+    let size = (2 * r.abs() + divisor) / (2 * divisor);
+    if r < 0 {
+        -size
+    } else {
+        size
+    }
+}

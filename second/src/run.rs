@@ -1,0 +1,196 @@
+//! A run of the log program: its campaign, its open day and the lines it prints.
+
+use crate::campaign::{check_start, start, Campaign, Lent};
+use crate::entering::Verdict;
+use crate::met;
+use crate::reading::Counts;
+use crate::record::{Record, ASK, ENTER, OPEN, SAMPLE, START, WITHDRAW};
+use crate::refusal::*;
+use crate::register::period;
+use crate::room::Room;
+use std::fmt::Write;
+
+/// The printed lines, and the names of everything met on the way.
+#[derive(Default)]
+pub struct Answer {
+    pub text: String,
+    pub met: Vec<String>,
+}
+
+impl Answer {
+    pub fn line(&mut self, line: std::fmt::Arguments) {
+        self.text
+            .write_fmt(line)
+            .expect("a string takes every line");
+        self.text.push('\n');
+    }
+}
+
+struct OpenDay {
+    day: u16,
+    samples: Vec<i32>,
+}
+
+#[derive(Default)]
+pub struct Run {
+    campaign: Option<(Campaign, Lent)>,
+    open: Option<OpenDay>,
+    pub answer: Answer,
+}
+
+pub enum After {
+    GoOn,
+    Stop,
+}
+
+/// Accepts a start within the program's limits: 17 stands in the place of 6.
+fn start_in_program(order: u32, taps: u32, slots: u32) -> Result<(Campaign, Lent), Refusal> {
+    check_start(order, taps, slots)?;
+    if order > 9 || slots > 8 {
+        return Err(PROGRAM_LIMIT);
+    }
+    let p = period(order);
+    let mut lent = Lent {
+        store: vec![0; slots as usize * p],
+        sums: vec![0; p],
+    };
+    let campaign = start(order, taps, slots, &mut lent)?;
+    Ok((campaign, lent))
+}
+
+impl Run {
+    pub fn in_open_day(&self) -> bool {
+        self.open.is_some()
+    }
+
+    /// Where the next record stands, in words.
+    pub fn place(&self) -> &'static str {
+        match (&self.campaign, &self.open) {
+            (None, _) => "first",
+            (Some(_), Some(_)) => "in a day",
+            (Some(_), None) => "outside",
+        }
+    }
+
+    /// Whether a record of this kind may stand next.
+    pub fn allows(&self, kind: u8) -> bool {
+        match (&self.campaign, &self.open) {
+            (None, _) => kind == START,
+            (Some(_), Some(_)) => kind == SAMPLE || kind == ENTER,
+            (Some(_), None) => kind == OPEN || kind == WITHDRAW || kind == ASK,
+        }
+    }
+
+    /// P samples have come in the open day already.
+    pub fn open_day_is_full(&self) -> bool {
+        match (&self.campaign, &self.open) {
+            (Some((campaign, _)), Some(open)) => open.samples.len() == campaign.p(),
+            _ => false,
+        }
+    }
+
+    pub fn carry_out(&mut self, record: Record) -> After {
+        match record {
+            Record::Start { order, taps, slots } => {
+                return self.start(u32::from(order), u32::from(taps), u32::from(slots));
+            }
+            Record::Open(day) => {
+                self.open = Some(OpenDay {
+                    day,
+                    samples: Vec::new(),
+                })
+            }
+            Record::Sample(value) => self.sample(value),
+            Record::Enter => self.enter(),
+            Record::Withdraw(day) => self.withdraw(day),
+            Record::Ask => self.ask(),
+        }
+        After::GoOn
+    }
+
+    fn start(&mut self, order: u32, taps: u32, slots: u32) -> After {
+        let started = start_in_program(order, taps, slots);
+        let answer = number(&started);
+        self.answer.line(format_args!("start {answer}"));
+        self.answer.met.push(met::start(order, taps, slots, answer));
+        match started {
+            Ok(campaign) => {
+                self.campaign = Some(campaign);
+                After::GoOn
+            }
+            Err(_) => After::Stop,
+        }
+    }
+
+    /// The campaign of a run whose start was accepted.
+    fn campaign(&mut self) -> &mut (Campaign, Lent) {
+        self.campaign
+            .as_mut()
+            .expect("only a start may come before the campaign")
+    }
+
+    fn sample(&mut self, value: i32) {
+        let open = self
+            .open
+            .as_mut()
+            .expect("a sample stands only in an open day");
+        open.samples.push(value);
+    }
+
+    fn enter(&mut self) {
+        let OpenDay { day, samples } = self.open.take().expect("4 stands only in an open day");
+        let (campaign, lent) = self.campaign();
+        let before = campaign.clone();
+        let entry = campaign.enter(lent, day, &samples);
+        let (answer, word) = match entry.verdict {
+            Verdict::Kept { .. } => (0, "kept"),
+            Verdict::Overloaded { .. } => (0, "overload"),
+            Verdict::Dead => (0, "dead"),
+            Verdict::Refused(refusal) => (refusal, "-"),
+        };
+        self.answer
+            .line(format_args!("enter {} {answer} {word}", entry.day));
+        self.answer
+            .met
+            .extend(met::enter(&before, &samples, day, answer, word));
+    }
+
+    fn withdraw(&mut self, day: u16) {
+        let (campaign, lent) = self.campaign();
+        let before = campaign.clone();
+        let answer = number(&campaign.withdraw(lent, day));
+        self.answer.line(format_args!("withdraw {day} {answer}"));
+        self.answer.met.push(met::withdraw(&before, day, answer));
+    }
+
+    fn ask(&mut self) {
+        let (campaign, lent) = self.campaign();
+        let p = campaign.p();
+        let (mut r, mut means) = (vec![0; p], vec![0; p]);
+        let mut room = Room {
+            wide: &mut vec![0; p + 1],
+            tags: &mut vec![0; 2 * p],
+        };
+        let answer = number(&campaign.response(lent, &mut r, &mut means, &mut room));
+        let divisor = campaign.divisor();
+        let counts = campaign.counts(lent).expect("a run never meets 15");
+        let Counts {
+            standing,
+            overloaded,
+            dead,
+            withdrawn,
+            ..
+        } = counts;
+        self.answer.line(format_args!(
+            "response {answer} {standing} {overloaded} {dead} {withdrawn}"
+        ));
+        if answer == 0 {
+            for (k, (r, mean)) in r.iter().zip(&means).enumerate() {
+                self.answer.line(format_args!("{k} {r} {mean}"));
+            }
+        }
+        self.answer
+            .met
+            .extend(met::response(answer, standing, &r, divisor));
+    }
+}

@@ -1,0 +1,120 @@
+//! The numbers 01 holds the meter to.
+
+use second::numbers::{digest, pattern, response_of};
+use second::refusal::number;
+use second::register::{check_taps, default_taps, first_return, period, sequence, signal};
+use second::response::{mean, predict, HIGHEST, LOWEST};
+
+fn bits(order: u32, taps: u32) -> Vec<u8> {
+    let mut bits = vec![9; period(order)];
+    sequence(order, taps, &mut bits).unwrap();
+    bits
+}
+
+fn predicted(h: &[i32]) -> Vec<i32> {
+    let mut y = vec![0; 7];
+    predict(3, 3, h, &mut y).unwrap();
+    y
+}
+
+#[test]
+fn printed_sequences() {
+    assert_eq!(bits(3, 3), [1, 1, 1, 0, 0, 1, 0]);
+    assert_eq!(bits(3, 5), [1, 1, 1, 0, 1, 0, 0]);
+    assert_eq!(bits(4, 3), [1, 1, 1, 1, 0, 0, 0, 1, 0, 0, 1, 1, 0, 1, 0]);
+    assert_eq!(signal(3, 3), [-1, -1, -1, 1, 1, -1, 1]);
+}
+
+#[test]
+fn p1_and_p2() {
+    let y = predicted(&[2, 0, -1, 0, 0, 0, 0]);
+    assert_eq!(y, [-1, -3, -1, 3, 3, -3, 1]);
+    assert_eq!(response_of(3, 3, &y).unwrap(), [16, 0, -8, 0, 0, 0, 0]);
+}
+
+#[test]
+fn p3_to_p6() {
+    let r = |y: [i32; 7]| response_of(3, 3, &y).unwrap();
+    assert_eq!(r([0, 0, 0, 5, 0, 0, 0]), [0, -10, -10, -10, 0, -10, 0]);
+    assert_eq!(r([1; 7]), [-8; 7]);
+    assert_eq!(r([0; 7]), [0; 7]);
+    assert_eq!(r([LOWEST; 7]), [67_108_864; 7]);
+}
+
+#[test]
+fn p7_to_p12() {
+    assert_eq!(bits(2, 3), [1, 1, 0]);
+    assert_eq!(check_taps(2, 3), Ok(()));
+    assert_eq!(check_taps(2, 1), Err(4));
+    assert_eq!(check_taps(2, 2), Err(3));
+    assert_eq!(check_taps(2, 4), Err(2));
+    assert_eq!((check_taps(4, 15), first_return(4, 15)), (Err(4), 5));
+    assert_eq!((check_taps(4, 5), first_return(4, 5)), (Err(4), 6));
+}
+
+#[test]
+fn orders_and_their_default_taps() {
+    assert_eq!((check_taps(1, 3), check_taps(17, 3)), (Err(1), Err(1)));
+    assert_eq!((default_taps(1), default_taps(17)), (Err(1), Err(1)));
+    for order in 2..=16 {
+        assert_eq!(
+            check_taps(order, default_taps(order).unwrap()),
+            Ok(()),
+            "order {order}"
+        );
+    }
+}
+
+#[test]
+fn refusals_of_one_recording_and_of_a_prediction() {
+    let at_place_0 = |v: i32| number(&response_of(3, 3, &[v, 0, 0, 0, 0, 0, 0]));
+    assert_eq!(number(&response_of(3, 3, &[0; 6])), 5);
+    assert_eq!(number(&response_of(3, 3, &[0; 8])), 5);
+    assert_eq!([8_388_606, HIGHEST, 8_388_608].map(at_place_0), [0, 0, 7]);
+    assert_eq!([LOWEST, -8_388_609].map(at_place_0), [0, 7]);
+    let predict = |h: &[i32]| number(&predict(3, 3, h, &mut [0; 7]));
+    assert_eq!(predict(&[0; 6]), 5);
+    assert_eq!(predict(&[8_388_608, 0, 0, 0, 0, 0, 0]), 7);
+    assert_eq!(predict(&[HIGHEST, HIGHEST, 0, 0, 0, 0, 0]), 8);
+}
+
+#[test]
+fn means() {
+    let pairs = [
+        (4, 1),
+        (-4, -1),
+        (-10, -1),
+        (12, 2),
+        (-12, -2),
+        (3, 0),
+        (-3, 0),
+        (0, 0),
+    ];
+    for (r, expected) in pairs {
+        assert_eq!(mean(r, 8), expected, "{r}/8");
+    }
+}
+
+#[test]
+fn responses_of_predictions_are_p_plus_1_times_h() {
+    for order in 2..=10 {
+        let taps = default_taps(order).unwrap();
+        let h = pattern(order);
+        let mut y = vec![0; period(order)];
+        predict(order, taps, &h, &mut y).unwrap();
+        let r = response_of(order, taps, &y).unwrap();
+        let scaled: Vec<i64> = h
+            .iter()
+            .map(|&v| (period(order) as i64 + 1) * v as i64)
+            .collect();
+        assert_eq!(r, scaled, "order {order}");
+        assert_eq!(digest(r), digest(scaled));
+    }
+}
+
+#[test]
+fn digests_count_order_and_sign() {
+    assert_eq!(digest([]), 0);
+    assert_eq!(digest([1, 2]), 133);
+    assert_eq!(digest([-1]), 1_000_002);
+}
