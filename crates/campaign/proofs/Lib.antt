@@ -5,3 +5,7 @@ pub mod Tallying
 pub mod Refiling
 pub mod Memory
 pub mod Steps
+pub mod Starting
+pub mod History
+pub mod Answers
+pub mod EveryRun

@@ -100,7 +100,7 @@ unfolding many total
 many-none zero test h = refl
 many-none (suc n) test h = rw (h n (omega arith)) (omega (arith, many-none n test (λ i l. h i (omega arith))))
 
-many-some : (n : ℕ) (test : ℕ → Bool) (i : ℕ) → i < n → test i ≡ true → 1 ≤ many n test
+pub many-some : (n : ℕ) (test : ℕ → Bool) (i : ℕ) → i < n → test i ≡ true → 1 ≤ many n test
 unfolding many total
 many-some zero test i l t = absurd (omega arith)
 many-some (suc n) test i l t = elim (ℕ-discrete i n) [
