@@ -32,10 +32,10 @@ use Rattle.campaign.proofs.Answers.{never-fifteen, RoomFor, answers}
 
 module _ (c : Campaign) (N taps C : ℕ) (store sums : List ℤ) (accepted : startOutcome c N taps C store sums .0 .answer ≡ 0) (cs : List Call) where
   -- the world that the start handed back, and the one after the run
-  pub w₀ : World
+  abbrev pub w₀ : World
   w₀ = begun N taps C store sums
 
-  pub w : World
+  abbrev pub w : World
   w = run w₀ cs
 
   history : SaysRun (begun N taps C store sums) cs
@@ -44,7 +44,6 @@ module _ (c : Campaign) (N taps C : ℕ) (store sums : List ℤ) (accepted : sta
   -- ---- 1. The record holds together, so no call of the run answers 15.
 
   pub holds : together (w .campaign) (w .store) (w .sums) ≡ true
-  unfolding w w₀
   holds = holds-together _ _ _ .1 (history .holds)
 
   pub no-fifteen : (call : Call) → answer w call ≡ 15 → ⊥
@@ -53,13 +52,11 @@ module _ (c : Campaign) (N taps C : ℕ) (store sums : List ℤ) (accepted : sta
   -- ---- 2. Each day's state is what the last accepted call naming that day made it, or unseen.
 
   pub each-day : (d : ℕ) → Day d → state (w .campaign) d ≡ made w₀ cs d
-  unfolding w w₀
   each-day = history .days
 
   -- ---- 3. The sums are, place by place, the total of the last recordings accepted for exactly the days then standing.
 
   pub sums-are : (j : ℕ) → j < P N → at (w .sums) j ≡ sum 366 (λ i. cond (eqb (made w₀ cs (i + 1)) standing) (at (heard w₀ cs (i + 1)) j) (pos 0))
-  unfolding w w₀
   sums-are j l =
       let s = history in
       let m : j < P (run w₀ cs .campaign .order) = omega (arith, ap P (s .order)) in
@@ -106,7 +103,6 @@ module _ (c : Campaign) (N taps C : ℕ) (store sums : List ℤ) (accepted : sta
     pub recovered : (d : ℕ) → Day d → made w₀ cs d ≡ standing → (r mean room : List ℤ) (tags : List ℕ) → RoomFor N r mean room tags
         → let o = responseOutcome (w .campaign) (w .store) (w .sums) r mean room tags in
         (o .0 ≡ 0) × ((k : ℕ) → k < P N → at (o .1) k ≡ pos (suc (P N)) *ℤ total k)
-    unfolding w w₀
     recovered d y e r mean room tags long =
         let s = history in
         let a = answers (run w₀ cs .campaign) (run w₀ cs .store) (run w₀ cs .sums) r mean room tags holds (subst (λ n. RoomFor n r mean room tags) (sym (s .order)) long) some-day in

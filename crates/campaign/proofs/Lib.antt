@@ -9,3 +9,8 @@ pub mod Starting
 pub mod History
 pub mod Answers
 pub mod EveryRun
+pub mod Undone
+pub mod AsIf
+pub mod Numbers
+pub mod Bounds
+pub mod Leveling

@@ -1,5 +1,5 @@
 -- The slots in use and the days standing are each other's: a sum over the one is a sum over the other, and there are as many of the one as of
--- the other. The five counts total 366. Assumes nothing.
+-- the other, at most C. Assumes nothing.
 use mathlib.Core.Path.{_≡_, refl, sym, ap, ap₂, _∙_}
 use mathlib.Core.Bool.{Bool, true, false, cond}
 use Prim.Native.Nat.{ℕ, zero, suc, _+_, _-_, _≤_, _<_}
@@ -12,7 +12,7 @@ use lib.IntN.{ℤ, pos, natAbs, _*ℤ_, zero-*ℤ}
 use Rattle.sums.specs.Sum.{sum, total, delta}
 use Rattle.sums.specs.Lists.{many}
 use Rattle.sums.proofs.Ring.{one-*ℤ}
-use Rattle.sums.proofs.Sum.{sum-ext, sum-zero, sum-swap, sum-scale-r, sum-delta, delta-same, delta-other, pos-total}
+use Rattle.sums.proofs.Sum.{sum-ext, sum-zero, sum-swap, sum-scale-r, sum-delta, delta-same, delta-other, natAbs-sum, pos-total}
 use Rattle.campaign.specs.Record.{standing, withdrawn, state, stands, daysIn, slot, free}
 use Rattle.campaign.specs.declared.Campaign.{Campaign}
 use Rattle.campaign.proofs.Holding.{Filed}
@@ -88,3 +88,13 @@ module _ (c : Campaign) (f : Filed c) where
   -- as many slots in use as days standing
   pub used-standing : sum (c .slots) (λ s. cond (free c s) (pos 0) (pos 1)) ≡ pos (daysIn c standing)
   used-standing = slots-as-days (λ d. pos 1) ∙ sym (pos-many 366 (λ i. stands c (i + 1)))
+
+  -- and so at most C
+  pub standing-most : daysIn c standing ≤ c .slots
+  standing-most =
+      rw (ap natAbs (sym used-standing))
+      (omega (arith, natAbs-sum (c .slots) 1 (λ s. cond (free c s) (pos 0) (pos 1)) (λ s _. at-most-one (free c s))))
+    where
+      at-most-one : (b : Bool) → natAbs (cond b (pos 0) (pos 1)) ≤ 1
+      at-most-one true = omega arith
+      at-most-one false = omega arith

@@ -1,19 +1,27 @@
 -- The tests of numbers, and what each tells. Assumes nothing.
 use mathlib.Core.Path.{_≡_, refl, sym, ap, ap₂, subst, _∙_}
 use mathlib.Core.Bool.{Bool, true, false, not, _&&_, _||_}
-use Prim.Native.Nat.{ℕ, suc, _^_, _≤_, _<_}
+use Prim.Native.Nat.{ℕ, suc, _+_, _^_, _≤_, _<_}
 use native.Mathlib.Omega.{arith}
 use borrow.Author.Tests.{le-leb, ltb-true}
 use lib.Dec.{T}
 use lib.IntN.{ℤ, pos, negsuc, natAbs}
 use lib.Signed.{leZ, ltZ}
-use Rattle.sums.proofs.Diff.{parts, ints}
+use Rattle.sums.proofs.Diff.{up, down, parts, leZ-diff, ints}
 use Rattle.sums.proofs.Everywhere.{and-true, both-true}
 use Rattle.campaign.specs.Record.{eqZ, inside}
 
-leZ-refl : (a : ℤ) → leZ a a ≡ true
-leZ-refl (pos n) = le-leb n n (omega arith)
-leZ-refl (negsuc n) = le-leb n n (omega arith)
+pub le-is : (a b : ℤ) → up a + down b ≤ up b + down a → leZ a b ≡ true
+le-is a b h = ap₂ leZ (parts a) (parts b) ∙ leZ-diff (up a) (down a) (up b) (down b) ∙ le-leb (up a + down b) (up b + down a) h
+
+pub leZ-refl : (a : ℤ) → leZ a a ≡ true
+leZ-refl a = le-is a a (omega arith)
+
+pub leZ-trans : (a b c : ℤ) → leZ a b ≡ true → leZ b c ≡ true → leZ a c ≡ true
+leZ-trans a b c p q = le-is a c (omega ints)
+
+pub leZ-turn : (a b : ℤ) → leZ a b ≡ false → leZ b a ≡ true
+leZ-turn a b p = le-is b a (omega ints)
 
 pub eqZ-same : {a b : ℤ} → a ≡ b → eqZ a b ≡ true
 eqZ-same {a} {b} e = subst (λ x. eqZ a x ≡ true) e (both-true (leZ-refl a) (leZ-refl a))

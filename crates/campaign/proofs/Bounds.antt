@@ -1,0 +1,122 @@
+-- Counts total 366. The mean fits the sample range, and |r| stays below 2^53. Assumes nothing.
+use mathlib.Core.Path.{_≡_, refl, ap, _∙_}
+use mathlib.Core.Bool.{Bool, true, false, cond}
+use mathlib.Core.List.{List}
+use Prim.Native.Nat.{ℕ, zero, suc, _+_, _*_, _^_, _≤_, _<_}
+use native.Mathlib.Nat.{le-trans, le-of-eq, mul-assoc, mul-comm, mul-le-mul, mul-pos, lt-of-mul-lt-mul-right}
+use native.Mathlib.Decide.{ℕ-discrete}
+use native.Mathlib.Omega.{arith}
+use borrow.Author.Tests.{le-ltb, eq-eqb, ne-eqb}
+use lib.Dec.{eqb}
+use lib.IntN.{ℤ, pos, negsuc, natAbs}
+use Rattle.sums.specs.Sum.{total}
+use Rattle.sums.specs.Lists.{at, many}
+use Rattle.sums.proofs.Bound.{natAbs-neg}
+use Rattle.sums.proofs.Sum.{sum-ext, pos-total, total-le, total-scaled, natAbs-total}
+use Rattle.register.specs.Register.{P}
+use Rattle.register.proofs.Judged.{generator}
+use Rattle.register.proofs.Word.{small}
+use Rattle.response.specs.Rounding.{nearest, rounded}
+use Rattle.response.specs.Calls.{sampleOut}
+use Rattle.response.proofs.Nearest.{near-nearest}
+use Rattle.response.proofs.Register.{response-bound}
+use Rattle.campaign.specs.Record.{unseen, standing, overloaded, dead, withdrawn, state, daysIn, slot, free, sample}
+use Rattle.campaign.specs.Calls.{worked, divisor, meanAt}
+use Rattle.campaign.specs.declared.Campaign.{Campaign}
+use Rattle.campaign.proofs.Tests.{inside-size}
+use Rattle.campaign.proofs.Holding.{Filed, Together}
+use Rattle.campaign.proofs.Tallying.{used-standing, standing-most}
+
+-- ---- counts
+
+-- a state is one of the five
+one-of : (q : ℕ) → q ≤ withdrawn
+    → cond (eqb q unseen) 1 0 + cond (eqb q standing) 1 0 + cond (eqb q overloaded) 1 0 + cond (eqb q dead) 1 0 + cond (eqb q withdrawn) 1 0 ≡ 1
+one-of zero h = refl
+one-of (suc zero) h = refl
+one-of (suc (suc zero)) h = refl
+one-of (suc (suc (suc zero))) h = refl
+one-of (suc (suc (suc (suc zero)))) h = refl
+one-of (suc (suc (suc (suc (suc q))))) h = absurd (omega arith)
+
+five : (n : ℕ) (f : ℕ → ℕ) → ((i : ℕ) → i < n → f i ≤ withdrawn)
+    → many n (λ i. eqb (f i) unseen) + many n (λ i. eqb (f i) standing) + many n (λ i. eqb (f i) overloaded) + many n (λ i. eqb (f i) dead)
+    + many n (λ i. eqb (f i) withdrawn)
+    ≡ n
+unfolding many total
+five zero f h = refl
+five (suc n) f h = omega (arith, five n f (λ i l. h i (omega arith)), one-of (f n) (h n (omega arith)))
+
+pub counts-total : (c : Campaign) → Filed c
+    → daysIn c unseen + daysIn c standing + daysIn c overloaded + daysIn c dead + daysIn c withdrawn ≡ 366
+counts-total c f = five 366 (λ i. state c (i + 1)) (f .states)
+
+-- the slots in use, as a number
+used-total : (c : Campaign) → Filed c → total (c .slots) (λ s. cond (free c s) 0 1) ≡ daysIn c standing
+used-total c f =
+    ap natAbs (pos-total (c .slots) (λ s. cond (free c s) 0 1) ∙ sum-ext (c .slots) (λ s _. each (free c s)) ∙ used-standing c f)
+  where
+    each : (b : Bool) → pos (cond b 0 1) ≡ cond b (pos 0) (pos 1)
+    each true = refl
+    each false = refl
+
+-- ---- the divisor, (P+1)·n
+
+pub divisor-some : (c : Campaign) → (daysIn c standing ≡ 0 → ⊥) → 0 < divisor c
+divisor-some c n = mul-pos (omega arith) (omega arith)
+
+divisor-most : (c : Campaign) → Filed c → divisor c ≤ 65536 * 64
+divisor-most c f =
+    let period : P (c .order) + 1 ≤ 65536 = omega (arith, small (f .accepted .shaped .most)) in
+    let days : daysIn c standing ≤ 64 = omega (arith, standing-most c f, f .most) in
+    mul-le-mul period days
+
+pub divisor-small : (c : Campaign) → Filed c → divisor c < 2 ^ 53
+divisor-small c f = omega (arith, divisor-most c f)
+
+-- ---- rounding keeps a bound
+
+pub nearest-bound : (a d B : ℕ) → 0 < d → a ≤ B * d → nearest a d ≤ B
+nearest-bound a d B p h =
+    let below : nearest a d * (2 * d) < suc B * (2 * d) = omega (arith, near-nearest a d p .0) in
+    omega (arith, lt-of-mul-lt-mul-right (2 * d) below)
+
+pub rounded-bound : (z : ℤ) (d B : ℕ) → 0 < d → natAbs z ≤ B * d → natAbs (rounded z d) ≤ B
+rounded-bound (pos a) d B p h = nearest-bound a d B p h
+rounded-bound (negsuc a) d B p h = rw natAbs-neg (nearest-bound (suc a) d B p h)
+
+pub size-inside : (z : ℤ) → natAbs z ≤ 8388607 → sampleOut z ≡ false
+size-inside (pos n) h = le-ltb 8388607 n h
+size-inside (negsuc n) h = rw (le-ltb 8388607 n (omega arith))
+
+-- ---- sums, response and mean
+
+module _ (c : Campaign) (store sums : List ℤ) (h : Together c store sums) where
+  pub sum-bound : (j : ℕ) → j < P (c .order) → natAbs (at sums j) ≤ daysIn c standing * 8388607
+  sum-bound j l =
+      rw (h .total j l)
+      (le-trans (natAbs-total (c .slots) _)
+      (le-trans (total-scaled (c .slots) 8388607 _ (λ s. cond (free c s) 0 1) each)
+      (le-of-eq (ap (λ n. 8388607 * n) (used-total c (h .filed)) ∙ mul-comm 8388607 (daysIn c standing)))))
+    where
+      each : (s : ℕ) → s < c .slots → natAbs (cond (free c s) (pos 0) (sample c store s j)) ≤ 8388607 * cond (free c s) 0 1
+      each s k = elim (ℕ-discrete (slot c s) 0) [
+        | yes e ↦ rw (eq-eqb (slot c s) 0 e) (omega arith)
+        | no e ↦ rw (ne-eqb (slot c s) 0 e) (inside-size (sample c store s j) (h .used s k e j l))
+      ]
+
+  pub worked-bound : (k : ℕ) → natAbs (worked c sums k) ≤ divisor c * 8388607
+  worked-bound k =
+      omega (
+        arith,
+        response-bound (c .order) (c .taps) (generator (h .filed .accepted)) (at sums) (daysIn c standing * 8388607) sum-bound k,
+        mul-assoc (P (c .order) + 1) (daysIn c standing) 8388607,
+      )
+
+  pub worked-small : (k : ℕ) → natAbs (worked c sums k) < 2 ^ 53
+  worked-small k = omega (arith, worked-bound k, divisor-most c (h .filed))
+
+  pub mean-fits : (daysIn c standing ≡ 0 → ⊥) → (k : ℕ) → sampleOut (meanAt c sums k) ≡ false
+  mean-fits n k =
+      size-inside (meanAt c sums k)
+      (rounded-bound (worked c sums k) (divisor c) 8388607 (divisor-some c n) (omega (arith, worked-bound k)))
