@@ -10,7 +10,8 @@ use borrow.Author.Tests.{eq-eqb, ne-eqb}
 use lib.Dec.{eqb}
 use lib.IntN.{ℤ, pos, _*ℤ_, *ℤ-zero}
 use Rattle.sums.specs.Sum.{sum}
-use Rattle.sums.specs.Lists.{at}
+use Rattle.sums.specs.Lists.{at, many}
+use Rattle.sums.proofs.Everywhere.{many-ext}
 use Rattle.sums.proofs.Sum.{sum-ext, sum-scale}
 use Rattle.sums.proofs.Tables.{at-put}
 use Rattle.register.specs.Register.{P, wave}
@@ -19,10 +20,12 @@ use Rattle.response.specs.Response.{prediction}
 use Rattle.response.specs.Response as formula
 use Rattle.response.proofs.Linear.{response-ext, response-zero, response-sum}
 use Rattle.response.proofs.Register.{predicted}
-use Rattle.campaign.specs.Record.{standing, state, stands, daysIn, slot, free, together}
-use Rattle.campaign.specs.Calls.{startOutcome, responseOutcome, worked}
+use Rattle.campaign.specs.Record.{unseen, standing, overloaded, dead, withdrawn, state, stands, daysIn, slot, free, together}
+use Rattle.campaign.specs.Calls.{startOutcome, countsOutcome, responseOutcome, worked}
 use Rattle.campaign.specs.Run.{World, Call, answer, run, made, heard}
 use Rattle.campaign.specs.declared.Campaign.{Campaign}
+use Rattle.campaign.specs.declared.Counts.the-variants.{Counted}
+use Rattle.campaign.proofs.Bounds.{counts-total}
 use Rattle.campaign.proofs.Holding.{holds-together}
 use Rattle.campaign.proofs.Tallying.{slots-as-days}
 use Rattle.campaign.proofs.Refiling.{Day, day, many-some}
@@ -53,6 +56,30 @@ module _ (c : Campaign) (N taps C : ℕ) (store sums : List ℤ) (accepted : sta
 
   pub each-day : (d : ℕ) → Day d → state (w .campaign) d ≡ made w₀ cs d
   each-day = history .days
+
+  -- so the counts are those of the history, and total 366
+  pub daysMade : ℕ → ℕ
+  daysMade q = many 366 (λ i. eqb (made w₀ cs (i + 1)) q)
+
+  days-are : (q : ℕ) → daysIn (w .campaign) q ≡ daysMade q
+  unfolding daysMade
+  days-are q = many-ext 366 (λ i l. ap (λ s. eqb s q) (each-day (i + 1) (day i l)))
+
+  pub counts-are : countsOutcome (w .campaign) (w .store) (w .sums)
+      ≡ Counted (record {
+        unseen = daysMade unseen;
+        standing = daysMade standing;
+        overloaded = daysMade overloaded;
+        dead = daysMade dead;
+        withdrawn = daysMade withdrawn;
+      })
+  unfolding countsOutcome
+  counts-are = rw (holds) (rw (days-are unseen, days-are standing, days-are overloaded, days-are dead, days-are withdrawn))
+
+  pub counts-total-366 : daysMade unseen + daysMade standing + daysMade overloaded + daysMade dead + daysMade withdrawn ≡ 366
+  counts-total-366 =
+      rw (← days-are unseen, ← days-are standing, ← days-are overloaded, ← days-are dead, ← days-are withdrawn)
+      (counts-total (w .campaign) (history .holds .filed))
 
   -- ---- 3. The sums are, place by place, the total of the last recordings accepted for exactly the days then standing.
 

@@ -1,0 +1,4 @@
+-- The laws of the program's own numbers.
+mod Below
+mod Folding
+mod Filling

@@ -1,0 +1,3 @@
+-- What the program's own numbers are.
+pub mod Digest
+pub mod Signals

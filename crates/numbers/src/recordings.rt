@@ -1,0 +1,76 @@
+// The lines of short recordings, of means, and of a prediction that is refused.
+use crate::print::line_end;
+use crate::print::number;
+use crate::print::signed;
+use crate::print::word;
+use response::rounding::mean;
+ghost use Prim.Native.Nat.{_<_, _^_};
+ghost use lib.IntN.{natAbs};
+
+// What one recording answers at order 3, taps 3, with room enough.
+fn answer(y: &[i32]) -> u32 {
+    let mut out = [0i64; 7];
+    let mut room = [0i64; 8];
+    let mut tags = [0u16; 14];
+    response::one_recording(3, 3, y, &mut out, &mut room, &mut tags)
+}
+
+fn recording_line(y: &[i32]) {
+    word(b"recording");
+    number(3);
+    number(3);
+    number(y.len() as u64);
+    number(answer(y) as u64);
+    line_end();
+}
+
+pub fn recording_lines() {
+    recording_line(&[0i32; 6]);
+    recording_line(&[0i32; 7]);
+    recording_line(&[0i32; 8]);
+}
+
+fn sample_line(v: i32) {
+    let y = [v, 0, 0, 0, 0, 0, 0];
+    word(b"sample");
+    signed(v as i64);
+    number(answer(&y) as u64);
+    line_end();
+}
+
+pub fn sample_lines() {
+    sample_line(8388606);
+    sample_line(8388607);
+    sample_line(8388608);
+    sample_line(-8388608);
+    sample_line(-8388609);
+}
+
+fn mean_line(r: i64, d: u64)
+    requires { ⌜ (0 < d) × (natAbs r < 2 ^ 63) ⌝ }
+{
+    word(b"mean");
+    signed(r);
+    number(d);
+    signed(mean(r, d));
+    line_end();
+}
+
+pub fn mean_lines() {
+    mean_line(4, 8);
+    mean_line(-4, 8);
+    mean_line(-10, 8);
+    mean_line(12, 8);
+    mean_line(-12, 8);
+    mean_line(3, 8);
+    mean_line(-3, 8);
+    mean_line(0, 8);
+}
+
+pub fn refused_line() {
+    let h = [8388607, 8388607, 0, 0, 0, 0, 0];
+    let mut y = [0i32; 7];
+    word(b"predict-refused");
+    number(response::predict(3, 3, &h, &mut y) as u64);
+    line_end();
+}
