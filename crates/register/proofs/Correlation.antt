@@ -56,15 +56,38 @@ balanced (suc N) u h l =
 
 -- ---- numbers by their bits
 
-bits-ext : (N w v : ℕ) → w < 2 ^ N → v < 2 ^ N → ((i : ℕ) → i < N → bitOf w i ≡ bitOf v i) → w ≡ v
+pub bits-ext : (N w v : ℕ) → w < 2 ^ N → v < 2 ^ N → ((i : ℕ) → i < N → bitOf w i ≡ bitOf v i) → w ≡ v
 bits-ext zero w v hw hv h = omega arith
 bits-ext (suc N) w v hw hv h =
     let e = bits-ext N (w / 2) (v / 2) (omega arith) (omega arith) (λ i l. sym (bit-suc w i) ∙ h (suc i) (omega arith) ∙ bit-suc v i) in
     let z : w % 2 ≡ v % 2 = sym (bit-zero w) ∙ h 0 (omega arith) ∙ bit-zero v in
     omega arith
 
-xor-pos : (a b : ℕ) → (a ≡ b → ⊥) → 0 < bitXor a b
+pub xor-pos : (a b : ℕ) → (a ≡ b → ⊥) → 0 < bitXor a b
 xor-pos a b h = omega (arith, xor-add-and a b, and-le-l a b, and-le-r a b)
+
+-- ---- tags
+
+pub bit-none : (i : ℕ) → bitOf 0 i ≡ 0
+bit-none zero = refl
+bit-none (suc i) = bit-suc 0 i ∙ bit-none i
+
+module _ (N taps : ℕ) (t : Tapped N taps) where
+  -- a bit of a window, by the tag of the window's place
+  window-tag : (a i : ℕ) → i < N → bitOf (window N taps a) i ≡ dot (tag N taps a) (window N taps i)
+  window-tag a i k = window-bit N taps i a k ∙ ap (bit N taps) (add-comm a i) ∙ ahead N taps t a i
+
+  -- tags that are the same tell windows that are the same, and no tag is 0
+  pub same-window : (a b : ℕ) → tag N taps a ≡ tag N taps b → window N taps a ≡ window N taps b
+  same-window a b e =
+      bits-ext N (window N taps a) (window N taps b) (window-lt N taps a) (window-lt N taps b)
+      (λ i k. window-tag a i k ∙ ap (λ (z : ℕ). dot z (window N taps i)) e ∙ sym (window-tag b i k))
+
+  pub tag-pos : (m : ℕ) → tag N taps m ≡ 0 → ⊥
+  tag-pos m e =
+      window-pos N taps t m
+      (bits-ext N (window N taps m) 0 (window-lt N taps m) (pow-pos N)
+      (λ i k. window-tag m i k ∙ ap (λ (z : ℕ). dot z (window N taps i)) e ∙ dot-zero (window N taps i) ∙ sym (bit-none i)))
 
 -- ---- the signal
 
@@ -93,37 +116,17 @@ module _ (N taps : ℕ) (g : Generator N taps) where
       (sym (window-rounds N taps (g .tapped) (g .maximal) (k / P N) (k % P N))
       ∙ ap (window N taps) (add-comm (k % P N) (k / P N * P N) ∙ div-add-mod' k (P N)))
 
-  -- tags that are the same tell windows that are the same, and no tag is 0
-  same-window : (a b : ℕ) → tag N taps a ≡ tag N taps b → window N taps a ≡ window N taps b
-  same-window a b e =
-      bits-ext N (window N taps a) (window N taps b) (window-lt N taps a) (window-lt N taps b)
-      (λ i k. window-bit N taps i a k ∙ ap (bit N taps) (add-comm a i) ∙ ahead N taps (g .tapped) a i
-      ∙ ap (λ (z : ℕ). dot z (window N taps i)) e
-      ∙ sym (window-bit N taps i b k ∙ ap (bit N taps) (add-comm b i) ∙ ahead N taps (g .tapped) b i))
-
-  tag-pos : (m : ℕ) → tag N taps m ≡ 0 → ⊥
-  tag-pos m e =
-      window-pos N taps (g .tapped) m
-      (bits-ext N (window N taps m) 0 (window-lt N taps m) (pow-pos N)
-      (λ i k. window-bit N taps i m k ∙ ap (bit N taps) (add-comm m i) ∙ ahead N taps (g .tapped) m i
-      ∙ ap (λ (z : ℕ). dot z (window N taps i)) e ∙ dot-zero (window N taps i)
-      ∙ sym (bit-none i)))
-    where
-      bit-none : (i : ℕ) → bitOf 0 i ≡ 0
-      bit-none zero = refl
-      bit-none (suc i) = bit-suc 0 i ∙ bit-none i
-
   pub tags-differ : (a b : ℕ) → a < P N → b < P N → tag N taps a ≡ tag N taps b → a ≡ b
-  tags-differ a b ha hb e = distinct N taps (g .tapped) (g .maximal .first) a b ha hb (same-window a b e)
+  tags-differ a b ha hb e = distinct N taps (g .tapped) (g .maximal .first) a b ha hb (same-window N taps (g .tapped) a b e)
 
   -- the tags of the delays P, P - 1, …, 1 are each nonzero number once
   pub tags-visit : Visits (P N) (λ i. tag N taps (P N - i))
   unfolding window
   tags-visit =
       record {
-        low = λ i _. let n = tag-pos (P N - i) in omega arith;
+        low = λ i _. let n = tag-pos N taps (g .tapped) (P N - i) in omega arith;
         high = λ i _. omega (arith, tag-lt N taps (g .tapped) (P N - i));
-        apart = λ i j hi hj e. apart i j hi hj (same-window (P N - i) (P N - j) e);
+        apart = λ i j hi hj e. apart i j hi hj (same-window N taps (g .tapped) (P N - i) (P N - j) e);
       }
     where
       apart : (i j : ℕ) → i < P N → j < P N → window N taps (P N - i) ≡ window N taps (P N - j) → i ≡ j

@@ -6,6 +6,7 @@ pub mod Recurrence
 pub mod Orbit
 pub mod Correlation
 pub mod Judged
+pub mod TagReturn
 pub mod Certificate
 pub mod Playing
 pub mod Sequences

@@ -1,25 +1,25 @@
-// Taps: judged by the register's first return to all ones, and the default taps of each order.
+// Taps: judged by the first return of the tags, which comes after the full period where the register's does; and the default taps.
 use crate::DefaultTaps;
 use crate::shift::full_period;
-use crate::shift::step;
+use crate::shift::tag_step;
 ghost use mathlib.Core.Path.{_≡_};
 ghost use Prim.Native.Nat.{_≤_};
 ghost use Rattle.sums.specs.Refusals.{first};
-ghost use Rattle.register.specs.Register.{period as periodOf};
+ghost use Rattle.register.specs.Register.{tagPeriod, Tapped};
 ghost use Rattle.register.specs.Calls.{shapeChecks, tapsAnswer, defaultOutcome};
 
-// The number of steps after which the register first returns to all ones; one past the full period where it has not by then.
-pub fn period(order: u32, taps: u32) -> u32
-    requires { ⌜ order ≤ 16 ⌝ }
-    ensures { λ r. ⌜ r ≡ periodOf order taps ⌝ }
+// The number of steps after which the tags first return to the first; one past the full period where they have not by then.
+fn tag_period(order: u32, taps: u32) -> u32
+    requires { ⌜ (order ≤ 16) × Tapped order taps ⌝ }
+    ensures { λ r. ⌜ r ≡ tagPeriod order taps ⌝ }
 {
-    let ones = full_period(order);
-    let mut window = ones;
+    let whole = full_period(order);
+    let mut tag = 1;
     let mut steps = 0;
-    while steps < ones {
-        window = step(order, taps, window);
+    while steps < whole {
+        tag = tag_step(order, taps, tag);
         steps += 1;
-        if window == ones {
+        if tag == 1 {
             return steps;
         }
     }
@@ -53,7 +53,7 @@ pub fn check_taps(order: u32, taps: u32) -> u32
     if refusal != 0 {
         return refusal;
     }
-    if period(order, taps) != full_period(order) {
+    if tag_period(order, taps) != full_period(order) {
         return 4;
     }
     0
