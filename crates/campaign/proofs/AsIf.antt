@@ -3,17 +3,16 @@
 use mathlib.Core.Path.{_≡_, refl, sym, ap, ap₂, subst, _∙_}
 use mathlib.Core.Bool.{Bool, true, false, cond, not, _&&_}
 use mathlib.Core.List.{List, [], _∷_, _++_}
-use Prim.Native.Nat.{ℕ, zero, suc, _+_, _-_, _≤_, _<_}
+use Prim.Native.Nat.{ℕ, zero, suc, _+_, _-_, _<_}
 use native.Mathlib.Decide.{ℕ-discrete}
 use native.Mathlib.Omega.{arith}
 use borrow.Author.Tests.{eq-eqb, ne-eqb, eqb-true}
 use lib.Dec.{T, eqb, ltb}
 use lib.IntN.{ℤ, pos}
 use lib.ListN.{length}
-use Rattle.sums.specs.Sum.{sum, total}
 use Rattle.sums.specs.Lists.{at, many}
 use Rattle.sums.specs.Refusals.{first, answered}
-use Rattle.sums.proofs.First.{numbered, refused-first, passed-first, accepts, Passed}
+use Rattle.sums.proofs.First.{refused-first, passed-first, accepts}
 use Rattle.sums.proofs.Sum.{sum-ext, total-changed}
 use Rattle.register.specs.Register.{P}
 use Rattle.response.specs.Calls.{lengthOff, someOut}
@@ -136,7 +135,7 @@ module _ (c : Campaign) (N taps C : ℕ) (store sums : List ℤ) (begin : startO
     one-more =
         let x : d - 1 + 1 ≡ d = omega (arith, r .first) in
         let t = total-changed 366 (d - 1) (λ i. cond (stands campaign-b (i + 1)) 1 0) (λ i. cond (stands campaign-a (i + 1)) 1 0) (omega (arith, r .first, r .last))
-          (λ i l n. ap (λ q. cond (eqb q standing) 1 0) (same-state (i + 1) (day i l) (λ e. n (omega arith)))) in
+        (λ i l n. ap (λ q. cond (eqb q standing) 1 0) (same-state (i + 1) (day i l) (λ e. n (omega arith)))) in
         let f : _≡_ {A = ℕ} (cond (stands campaign-a (d - 1 + 1)) 1 0) 1 = ap (λ q. cond {A = ℕ} q 1 0) (eq-eqb (state campaign-a (d - 1 + 1)) standing (ap (state campaign-a) x ∙ ever a .days d r ∙ s .mine)) in
         let g : _≡_ {A = ℕ} (cond (stands campaign-b (d - 1 + 1)) 1 0) 0 = ap (λ q. cond {A = ℕ} q 1 0) (ne-eqb (state campaign-b (d - 1 + 1)) standing (λ e. s .none (sym (ever b .days d r) ∙ ap (state campaign-b) (sym x) ∙ e))) in
         omega arith
@@ -215,9 +214,9 @@ module _ (c : Campaign) (N taps C : ℕ) (store sums : List ℤ) (begin : startO
           record {
             others = λ e p n. both e p n (makes call) (made w₀ a e) (made w₀ b e) (s .others e p n);
             hears = λ e p n.
-              let q = s .hears e p n in
-              both e p n (recording call (heard w₀ a e)) (heard w₀ a e) (heard w₀ b e) q
-              ∙ ap (λ z. cond (names call e && accepted (run w₀ b) call) (recording call z) (heard w₀ b e)) q;
+                let q = s .hears e p n in
+                both e p n (recording call (heard w₀ a e)) (heard w₀ a e) (heard w₀ b e) q
+                ∙ ap (λ z. cond (names call e && accepted (run w₀ b) call) (recording call z) (heard w₀ b e)) q;
             mine = ap (λ k. cond (k && accepted (run w₀ a) call) (makes call) (made w₀ a d)) other ∙ s .mine;
             none = λ e. s .none (sym (ap (λ k. cond (k && accepted (run w₀ b) call) (makes call) (made w₀ b d)) other) ∙ e);
           }
@@ -287,10 +286,10 @@ module _ (c : Campaign) (N taps C : ℕ) (store sums : List ℤ) (begin : startO
             ≡ cond (eqb (made w₀ (without-it between) (i + 1)) standing) (at (heard w₀ (without-it between) (i + 1)) j) (pos 0)
         part i j l = elim (ℕ-discrete (i + 1) d) [
           | yes e ↦
-            ap (λ q. cond (eqb q standing) (at (heard w₀ (withdraw d ∷ with-it between) (i + 1)) j) (pos 0)) (ap (made w₀ (withdraw d ∷ with-it between)) e ∙ gone)
-            ∙ sym (ap (λ k. cond k (at (heard w₀ (without-it between) (i + 1)) j) (pos 0)) (ne-eqb (made w₀ (without-it between) (i + 1)) standing (λ q. s .none (ap (made w₀ (without-it between)) (sym e) ∙ q))))
+              ap (λ q. cond (eqb q standing) (at (heard w₀ (withdraw d ∷ with-it between) (i + 1)) j) (pos 0)) (ap (made w₀ (withdraw d ∷ with-it between)) e ∙ gone)
+              ∙ sym (ap (λ k. cond k (at (heard w₀ (without-it between) (i + 1)) j) (pos 0)) (ne-eqb (made w₀ (without-it between) (i + 1)) standing (λ q. s .none (ap (made w₀ (without-it between)) (sym e) ∙ q))))
           | no e ↦
-            ap₂ (λ q z. cond (eqb q standing) (at z j) (pos 0)) (before (i + 1) e ∙ s .others (i + 1) (day i l) e) (unheard (i + 1) ∙ s .hears (i + 1) (day i l) e)
+              ap₂ (λ q z. cond (eqb q standing) (at z j) (pos 0)) (before (i + 1) e ∙ s .others (i + 1) (day i l) e) (unheard (i + 1) ∙ s .hears (i + 1) (day i l) e)
         ]
 
         same-sums : (j : ℕ) → j < P N → at (run w₀ (withdraw d ∷ with-it between) .sums) j ≡ at (run w₀ (without-it between) .sums) j
@@ -302,8 +301,8 @@ module _ (c : Campaign) (N taps C : ℕ) (store sums : List ℤ) (begin : startO
         same-days : (e : ℕ) → Day e → stands (run w₀ (withdraw d ∷ with-it between) .campaign) e ≡ stands (run w₀ (without-it between) .campaign) e
         same-days e p = elim (ℕ-discrete e d) [
           | yes q ↦
-            ap (λ k. eqb k standing) (ever (withdraw d ∷ with-it between) .days e p ∙ ap (made w₀ (withdraw d ∷ with-it between)) q ∙ gone)
-            ∙ sym (ne-eqb (state (run w₀ (without-it between) .campaign) e) standing (λ k. s .none (ap (made w₀ (without-it between)) (sym q) ∙ sym (ever (without-it between) .days e p) ∙ k)))
+              ap (λ k. eqb k standing) (ever (withdraw d ∷ with-it between) .days e p ∙ ap (made w₀ (withdraw d ∷ with-it between)) q ∙ gone)
+              ∙ sym (ne-eqb (state (run w₀ (without-it between) .campaign) e) standing (λ k. s .none (ap (made w₀ (without-it between)) (sym q) ∙ sym (ever (without-it between) .days e p) ∙ k)))
           | no q ↦ ap (λ k. eqb k standing) (ever (withdraw d ∷ with-it between) .days e p ∙ before e q ∙ s .others e p q ∙ sym (ever (without-it between) .days e p))
         ]
 

@@ -12,7 +12,7 @@ use lib.IntN.{ℤ, pos, negsuc, natAbs}
 use Rattle.sums.specs.Sum.{total}
 use Rattle.sums.specs.Lists.{at, many}
 use Rattle.sums.proofs.Bound.{natAbs-neg}
-use Rattle.sums.proofs.Sum.{sum-ext, pos-total, total-le, total-scaled, natAbs-total}
+use Rattle.sums.proofs.Sum.{sum-ext, pos-total, total-scaled, natAbs-total}
 use Rattle.register.specs.Register.{P}
 use Rattle.register.proofs.Judged.{generator}
 use Rattle.register.proofs.Word.{small}

@@ -1,7 +1,7 @@
 -- The third demand: after any run of calls each day's state, the sums and the answer are exactly what the history says. For every order,
 -- taps, slot count, lent memory and list of calls `cs`, the latest first, refused calls included, from a start that was accepted. Assumes nothing.
 use mathlib.Core.Path.{_≡_, sym, ap, ap₂, subst, _∙_}
-use mathlib.Core.Bool.{Bool, true, false, cond}
+use mathlib.Core.Bool.{true, cond}
 use mathlib.Core.List.{List}
 use Prim.Native.Nat.{ℕ, suc, _+_, _-_, _*_, _<_}
 use native.Mathlib.Decide.{ℕ-discrete}
@@ -114,8 +114,8 @@ module _ (c : Campaign) (N taps C : ℕ) (store sums : List ℤ) (accepted : sta
         ≡ pos (suc (P N)) *ℤ cond (eqb (made w₀ cs (i + 1)) standing) (h (i + 1) k) (pos 0)
     one-day i k l m = elim (ℕ-discrete (made w₀ cs (i + 1)) standing) [
       | yes e ↦ rw (eq-eqb (made w₀ cs (i + 1)) standing e)
-        (response-ext (P N) (wave N taps) (convolved (i + 1) (day i l) e) k
-        ∙ predicted N taps (generator (started c N taps C store sums accepted .0 .accepted)) (h (i + 1)) k m)
+          (response-ext (P N) (wave N taps) (convolved (i + 1) (day i l) e) k
+          ∙ predicted N taps (generator (started c N taps C store sums accepted .0 .accepted)) (h (i + 1)) k m)
       | no e ↦ rw (ne-eqb (made w₀ cs (i + 1)) standing e) (response-zero (P N) (wave N taps) k ∙ sym (*ℤ-zero (pos (suc (P N)))))
     ]
 
@@ -132,8 +132,7 @@ module _ (c : Campaign) (N taps C : ℕ) (store sums : List ℤ) (accepted : sta
         (o .0 ≡ 0) × ((k : ℕ) → k < P N → at (o .1) k ≡ pos (suc (P N)) *ℤ total k)
     recovered d y e r mean room tags long =
         let s = history in
-        let a = answers (run w₀ cs .campaign) (run w₀ cs .store) (run w₀ cs .sums) r mean room tags holds (subst (λ n. RoomFor n r mean room tags) (sym (s .order)) long) some-day in
-        (
+        let a = answers (run w₀ cs .campaign) (run w₀ cs .store) (run w₀ cs .sums) r mean room tags holds (subst (λ n. RoomFor n r mean room tags) (sym (s .order)) long) some-day in (
           ap (λ o. o .0) a,
           λ k m. ap (λ o. at (o .1) k) a
               ∙ at-put (P (run w₀ cs .campaign .order)) (worked (run w₀ cs .campaign) (run w₀ cs .sums)) r k (pos 0) (omega (arith, ap P (s .order)))

@@ -1,9 +1,9 @@
 -- After any run of calls from an accepted start the record holds together, each day's state is what the history says, and each slot in use
 -- holds the last recording accepted for its day. Assumes nothing.
-use mathlib.Core.Path.{_≡_, refl, sym, ap, subst, _∙_}
+use mathlib.Core.Path.{_≡_, refl, sym, ap, _∙_}
 use mathlib.Core.Bool.{Bool, true, false, cond, _&&_}
 use mathlib.Core.List.{List, [], _∷_}
-use Prim.Native.Nat.{ℕ, _+_, _*_, _≤_, _<_}
+use Prim.Native.Nat.{ℕ, _≤_, _<_}
 use native.Mathlib.Decide.{ℕ-discrete}
 use native.Mathlib.Omega.{arith}
 use borrow.Author.Tests.{eq-eqb, ne-eqb}
@@ -19,7 +19,7 @@ use Rattle.campaign.specs.Run.{World, Call, enter, withdraw, counts, res
 use Rattle.campaign.specs.declared.Campaign.{Campaign}
 use Rattle.campaign.proofs.Holding.{Together, holds-together}
 use Rattle.campaign.proofs.Tallying.{no-slot}
-use Rattle.campaign.proofs.Refiling.{Sized, Day, sized-filed, sized-marked, state-same, state-other, slot-same, slot-other, slot-unique}
+use Rattle.campaign.proofs.Refiling.{Sized, Day, sized-filed, sized-marked, state-same, state-other, slot-same, slot-other}
 use Rattle.campaign.proofs.Memory.{sample-same, sample-other, together-kept, together-withdrawn, together-marked}
 use Rattle.campaign.proofs.Starting.{begun, Begins, begun-sized, begun-state, begun-slot, begun-together}
 use Rattle.campaign.proofs.Steps.{Entering, entering, Withdrawing, withdrawing}
@@ -101,13 +101,13 @@ module _ {c₀ c : Campaign} {store sums : List ℤ} {f : ℕ → ℕ} {h : ℕ 
         ];
         slot-hears = λ i m u j o. elim (ℕ-discrete i k) [
           | yes x ↦
-            ap (λ t. sample c (putAt (base c k) y store) t j) x ∙ sample-same c store y k l (s .holds .store-long) long j o
-            ∙ sym (ap (λ t. at (changed d y h t) j) (ap (slot (filed c d standing k d)) x ∙ slot-same c (s .sized) d standing r k d (omega (arith, s .holds .filed .most)))
-            ∙ ap (λ z. at z j) (changed-same d y h))
+              ap (λ t. sample c (putAt (base c k) y store) t j) x ∙ sample-same c store y k l (s .holds .store-long) long j o
+              ∙ sym (ap (λ t. at (changed d y h t) j) (ap (slot (filed c d standing k d)) x ∙ slot-same c (s .sized) d standing r k d (omega (arith, s .holds .filed .most)))
+              ∙ ap (λ z. at z j) (changed-same d y h))
           | no x ↦
-            let q = slot-other c (s .sized) d standing r k d i x in
-            sample-other c store y k l (s .holds .store-long) long i j x o ∙ s .slot-hears i m (λ z. u (q ∙ z)) j o
-            ∙ sym (ap (λ t. at (changed d y h t) j) q ∙ ap (λ z. at z j) (changed-other d (slot c i) y h (λ z. no-slot c (s .holds .filed) d i (r .first) n m z)))
+              let q = slot-other c (s .sized) d standing r k d i x in
+              sample-other c store y k l (s .holds .store-long) long i j x o ∙ s .slot-hears i m (λ z. u (q ∙ z)) j o
+              ∙ sym (ap (λ t. at (changed d y h t) j) q ∙ ap (λ z. at z j) (changed-other d (slot c i) y h (λ z. no-slot c (s .holds .filed) d i (r .first) n m z)))
         ];
       }
 
@@ -129,9 +129,9 @@ module _ {c₀ c : Campaign} {store sums : List ℤ} {f : ℕ → ℕ} {h : ℕ 
         slot-hears = λ i m u j o. elim (ℕ-discrete i k) [
           | yes x ↦ absurd (u (ap (slot (filed c d withdrawn k 0)) x ∙ slot-same c (s .sized) d withdrawn r k 0 (omega (arith, s .holds .filed .most))))
           | no x ↦
-            let q = slot-other c (s .sized) d withdrawn r k 0 i x in
-            sample-other c store (table (P (c .order)) (λ _. pos 0)) k l (s .holds .store-long) (length-table (P (c .order)) (λ _. pos 0)) i j x o
-            ∙ s .slot-hears i m (λ z. u (q ∙ z)) j o ∙ sym (ap (λ t. at (h t) j) q)
+              let q = slot-other c (s .sized) d withdrawn r k 0 i x in
+              sample-other c store (table (P (c .order)) (λ _. pos 0)) k l (s .holds .store-long) (length-table (P (c .order)) (λ _. pos 0)) i j x o
+              ∙ s .slot-hears i m (λ z. u (q ∙ z)) j o ∙ sym (ap (λ t. at (h t) j) q)
         ];
       }
 

@@ -1,12 +1,12 @@
 -- Holding together, as a fact for each clause: the test of the specification holds exactly where these facts do. Assumes nothing.
-use mathlib.Core.Path.{_≡_, refl, sym, ap, _∙_}
+use mathlib.Core.Path.{_≡_, ap}
 use mathlib.Core.Logic.{_↔_}
-use mathlib.Core.Bool.{Bool, true, false, not, _&&_, _||_}
+use mathlib.Core.Bool.{true, not, _&&_, _||_}
 use mathlib.Core.List.{List}
-use Prim.Native.Nat.{ℕ, zero, suc, _+_, _-_, _*_, _≤_, _<_}
+use Prim.Native.Nat.{ℕ, _+_, _*_, _≤_, _<_}
 use native.Mathlib.Decide.{decLt, ℕ-discrete}
 use native.Mathlib.Omega.{arith}
-use borrow.Author.Tests.{leb-true, eqb-true, le-leb, lt-ltb, le-ltb, eq-eqb, ne-eqb, ltb-true}
+use borrow.Author.Tests.{leb-true, eqb-true, le-leb, lt-ltb, le-ltb, eq-eqb, ne-eqb}
 use lib.Dec.{eqb, ltb, leb}
 use lib.IntN.{ℤ, pos}
 use lib.ListN.{length}
@@ -61,18 +61,18 @@ module _ (c : Campaign) (store sums : List ℤ) where
           states = λ i l. leb-true (state c (i + 1)) withdrawn (every-at 366 _ (k2 .1) i l);
           past = λ s l p. eqb-true (slot c s) 0 (or-right (ltb s (c .slots)) (free c s) (every-at 64 _ (k3 .1) s l) (le-ltb s (c .slots) p));
           named = λ s l u.
-            let two = and-true (leb (slot c s) 366) (stands c (slot c s)) (or-right (free c s) _ (every-at (c .slots) _ (k5 .1) s l) (ne-eqb (slot c s) 0 u)) in
-            (leb-true (slot c s) 366 (two .0), eqb-true (state c (slot c s)) standing (two .1));
+              let two = and-true (leb (slot c s) 366) (stands c (slot c s)) (or-right (free c s) _ (every-at (c .slots) _ (k5 .1) s l) (ne-eqb (slot c s) 0 u)) in
+              (leb-true (slot c s) 366 (two .0), eqb-true (state c (slot c s)) standing (two .1));
           one = λ i l q.
-            eqb-true (many (c .slots) (λ s. eqb (slot c s) (i + 1))) 1
-            (or-right (not (stands c (i + 1))) _ (every-at 366 _ (k6 .1) i l) (ap not (eq-eqb (state c (i + 1)) standing q)));
+              eqb-true (many (c .slots) (λ s. eqb (slot c s) (i + 1))) 1
+              (or-right (not (stands c (i + 1))) _ (every-at 366 _ (k6 .1) i l) (ap not (eq-eqb (state c (i + 1)) standing q)));
         };
         store-long = leb-true (c .slots * P (c .order)) (length store) (room .0);
         sums-long = leb-true (P (c .order)) (length sums) (room .1);
         used = λ s l u j k. every-at (P (c .order)) _ (or-right (free c s) _ (every-at (c .slots) _ (k7 .1) s l) (ne-eqb (slot c s) 0 u)) j k;
         zeros = λ s l f j k.
-          eqZ-is (sample c store s j) (pos 0)
-          (every-at (P (c .order)) _ (or-right (not (free c s)) _ (every-at (c .slots) _ (k8 .1) s l) (ap not (eq-eqb (slot c s) 0 f))) j k);
+            eqZ-is (sample c store s j) (pos 0)
+            (every-at (P (c .order)) _ (or-right (not (free c s)) _ (every-at (c .slots) _ (k8 .1) s l) (ap not (eq-eqb (slot c s) 0 f))) j k);
         total = λ j k. eqZ-is (at sums j) (usedTotal c store j) (every-at (P (c .order)) _ (k9 .1) j k);
       }
 

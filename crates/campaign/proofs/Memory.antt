@@ -1,9 +1,9 @@
 -- The store and the sums when one slot's samples are changed: the other slots keep theirs, and the sums follow. So the record holds together
 -- after a kept entry and after a withdrawal. Assumes nothing.
 use mathlib.Core.Path.{_≡_, refl, sym, ap, ap₂, subst, _∙_}
-use mathlib.Core.Bool.{Bool, true, false, cond}
+use mathlib.Core.Bool.{true, cond}
 use mathlib.Core.List.{List}
-use Prim.Native.Nat.{ℕ, zero, suc, _+_, _-_, _*_, _≤_, _<_}
+use Prim.Native.Nat.{ℕ, _+_, _-_, _*_, _≤_, _<_}
 use native.Mathlib.Nat.{mul-le-mul-right, suc-mul, le-trans}
 use native.Mathlib.Decide.{ℕ-discrete, decLt}
 use native.Mathlib.Omega.{arith}
@@ -11,7 +11,6 @@ use borrow.Author.Tests.{eq-eqb, ne-eqb}
 use lib.Dec.{eqb}
 use lib.IntN.{ℤ, pos, _+ℤ_, _-ℤ_}
 use lib.ListN.{length}
-use Rattle.sums.specs.Sum.{sum}
 use Rattle.sums.specs.Lists.{at, table, put, putAt}
 use Rattle.sums.proofs.Everywhere.{length-putAt, putAt-before, putAt-here, putAt-after}
 use Rattle.sums.proofs.Ring.{ring}
@@ -22,7 +21,7 @@ use Rattle.campaign.specs.Record.{standing, withdrawn, state, slot, free
 use Rattle.campaign.specs.Calls.{marked, filed}
 use Rattle.campaign.specs.declared.Campaign.{Campaign}
 use Rattle.campaign.proofs.Holding.{Filed, Together}
-use Rattle.campaign.proofs.Refiling.{Sized, Day, state-same, slot-same, slot-other, marked-filed, taken-filed, freed-filed}
+use Rattle.campaign.proofs.Refiling.{Sized, Day, slot-same, slot-other, marked-filed, taken-filed, freed-filed}
 
 -- ---- one slot of the store
 
@@ -45,10 +44,10 @@ module _ (c : Campaign) (store z : List ℤ) (k : ℕ) (inside : k < c .slots) (
   sample-other s j n l = elim (decLt s k) [
     | yes h ↦ putAt-before (base c k) z store fits (base c s + j) (pos 0) (omega (arith, ends s k h))
     | no h ↦
-      let e = ends k s (omega arith) in
-      let i = base c s + j - base c k in
-      let w : base c k + i ≡ base c s + j = omega arith in
-      ap (at (putAt (base c k) z store)) (sym w) ∙ putAt-after (base c k) z store fits i (pos 0) (omega arith) ∙ ap (at store) w
+        let e = ends k s (omega arith) in
+        let i = base c s + j - base c k in
+        let w : base c k + i ≡ base c s + j = omega arith in
+        ap (at (putAt (base c k) z store)) (sym w) ∙ putAt-after (base c k) z store fits i (pos 0) (omega arith) ∙ ap (at store) w
   ]
 
 -- ---- slot k given the day t and the samples z

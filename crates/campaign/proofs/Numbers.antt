@@ -12,9 +12,8 @@ use Rattle.register.specs.Calls.{tapsAnswer}
 use Rattle.response.specs.Response as formula
 use Rattle.response.specs.Rounding.{nearest, rounded}
 use Rattle.campaign.specs.Record.{together}
-use Rattle.campaign.specs.Calls.{fresh, startOutcome, enterOutcome, withdrawOutcome, countsOutcome, responseOutcome}
+use Rattle.campaign.specs.Calls.{fresh, enterOutcome, withdrawOutcome, responseOutcome}
 use Rattle.campaign.specs.Run.{World, enter, withdraw, response, after, answer, run}
-use Rattle.campaign.specs.declared.Campaign.{Campaign}
 use Rattle.campaign.specs.declared.Verdict.{Verdict}
 use Rattle.campaign.specs.declared.Verdict.the-variants.{Kept, Overloaded, Dead, Refused}
 

@@ -7,11 +7,10 @@ use native.Mathlib.Decide.{ℕ-discrete}
 use native.Mathlib.Omega.{arith}
 use borrow.Author.Tests.{eq-eqb, ne-eqb}
 use lib.Dec.{eqb}
-use lib.ListN.{length, set, length-set}
+use lib.ListN.{length, length-set}
 use lib.Seq.{getD-set-same, getD-set-other}
 use Rattle.sums.specs.Sum.{total}
 use Rattle.sums.specs.Lists.{many}
-use Rattle.sums.proofs.Everywhere.{many-ext}
 use Rattle.sums.proofs.Sum.{total-changed}
 use Rattle.campaign.specs.Record.{standing, withdrawn, state, slot}
 use Rattle.campaign.specs.Calls.{marked, filed}

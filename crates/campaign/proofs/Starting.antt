@@ -1,29 +1,26 @@
 -- An accepted start: every day unseen, every slot free, store and sums zero, and so a record that holds together. Assumes nothing.
-use mathlib.Core.Path.{_≡_, refl, sym, ap, subst, _∙_}
-use mathlib.Core.Bool.{Bool, true, false, cond, _||_}
-use mathlib.Core.List.{List, [], _∷_, _++_}
-use Prim.Native.Nat.{ℕ, zero, suc, _+_, _-_, _*_, _≤_, _<_}
+use mathlib.Core.Path.{_≡_, refl, sym, ap, _∙_}
+use mathlib.Core.Bool.{cond}
+use mathlib.Core.List.{List}
+use Prim.Native.Nat.{ℕ, zero, suc, _+_, _-_, _*_, _≤_}
 use native.Mathlib.Nat.{mul-le-mul-right, suc-mul}
 use native.Mathlib.Omega.{arith}
 use borrow.Author.Tests.{ltb-false, eq-eqb}
-use lib.Dec.{eqb, ltb}
+use lib.Dec.{ltb}
 use lib.IntN.{ℤ, pos}
 use lib.ListN.{length, getD, replicate, length-replicate}
-use Rattle.sums.specs.Sum.{sum}
-use Rattle.sums.specs.Lists.{at, table, put}
-use Rattle.sums.specs.Refusals.{first}
-use Rattle.sums.proofs.First.{accepts, passes, or-false}
+use Rattle.sums.specs.Lists.{table}
+use Rattle.sums.proofs.First.{accepts, or-false}
 use Rattle.sums.proofs.Sum.{sum-ext, sum-zero}
 use Rattle.sums.proofs.Tables.{at-put, length-put, length-table}
 use Rattle.register.specs.Register.{P, Accepted}
 use Rattle.register.specs.Calls.{tapsChecks, tapsAnswer}
 use Rattle.register.proofs.Judged.{accepted-exactly}
 use Rattle.response.specs.Calls.{clearedWide}
-use Rattle.campaign.specs.Record.{unseen, standing, withdrawn, state, slot, base, sample, usedTotal}
+use Rattle.campaign.specs.Record.{unseen, standing, state, slot, sample, usedTotal}
 use Rattle.campaign.specs.Calls.{startChecks, fresh, startOutcome}
 use Rattle.campaign.specs.Run.{World}
 use Rattle.campaign.specs.declared.Campaign.{Campaign}
-use Rattle.campaign.specs.declared.Started.{Started}
 use Rattle.campaign.proofs.Holding.{Together}
 use Rattle.campaign.proofs.Refiling.{Sized}
 use Rattle.campaign.proofs.Steps.{outcome-cases}

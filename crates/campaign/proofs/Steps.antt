@@ -1,18 +1,17 @@
 -- What an entry and a withdrawal come to where the record holds together, case by case; and the number that each answers as one list of
 -- checks. Assumes nothing.
 use mathlib.Core.Path.{_≡_, refl, sym, ap, subst, _∙_}
-use mathlib.Core.Bool.{Bool, true, false, cond, not, _&&_, _||_}
+use mathlib.Core.Bool.{Bool, true, false, cond}
 use mathlib.Core.List.{List, [], _∷_}
-use Prim.Native.Nat.{ℕ, zero, suc, _+_, _-_, _*_, _≤_, _<_}
+use Prim.Native.Nat.{ℕ, zero, suc, _+_, _-_, _≤_, _<_}
 use native.Mathlib.Decide.{decLt}
 use native.Mathlib.Omega.{arith}
-use borrow.Author.Tests.{lt-ltb, ltb-false, ltb-true, eqb-true, eqb-false, not-false, eq-eqb, ne-eqb}
+use borrow.Author.Tests.{lt-ltb, ltb-false, eqb-true, eqb-false, not-false}
 use lib.Dec.{T, eqb, ltb}
 use lib.IntN.{ℤ, pos, negsuc, natAbs, _+ℤ_, _-ℤ_}
 use lib.ListN.{length}
-use lib.Signed.{ltZ, leZ}
-use Rattle.sums.specs.Sum.{sum}
-use Rattle.sums.specs.Lists.{at, table, put, putAt, seek, many, every, some}
+use lib.Signed.{ltZ}
+use Rattle.sums.specs.Lists.{at, table, put, putAt, many}
 use Rattle.sums.specs.Refusals.{first, answered, outcome}
 use Rattle.sums.proofs.Everywhere.{both-true}
 use Rattle.sums.proofs.First.{numbered, passes, Passed, or-false}
@@ -20,15 +19,15 @@ use Rattle.sums.proofs.Seek.{First, seek-first}
 use Rattle.sums.proofs.Somewhere.{none-of}
 use Rattle.sums.proofs.Sum.{sum-ext, sum-one}
 use Rattle.register.specs.Register.{P}
-use Rattle.response.specs.Calls.{sampleOut, someOut, lengthOff}
-use Rattle.campaign.specs.Record.{standing, overloaded, dead, withdrawn, state, stands, daysIn, slot, free, base, sample, inside, eqZ, together}
-use Rattle.campaign.specs.Calls.{apart, dayOut, enterChecks, withdrawChecks, rail, railPlace, still, marked, filed, entered, lowestFree, slotOfDay, keptOutcome, judgedOutcome, withdrawnOutcome, enterOutcome, withdrawOutcome, verdictNumber}
+use Rattle.response.specs.Calls.{sampleOut, someOut}
+use Rattle.campaign.specs.Record.{standing, overloaded, dead, withdrawn, state, daysIn, slot, free, base, sample, inside, eqZ, together}
+use Rattle.campaign.specs.Calls.{dayOut, enterChecks, withdrawChecks, rail, railPlace, still, marked, filed, entered, lowestFree, slotOfDay, keptOutcome, judgedOutcome, withdrawnOutcome, enterOutcome, withdrawOutcome, verdictNumber}
 use Rattle.campaign.specs.Run.{World}
 use Rattle.campaign.specs.declared.Campaign.{Campaign}
 use Rattle.campaign.specs.declared.Entered.{Entered}
 use Rattle.campaign.specs.declared.Withdrawn.{Withdrawn}
 use Rattle.campaign.specs.declared.Verdict.the-variants as verdict
-use Rattle.campaign.proofs.Holding.{Filed, Together, holds-together}
+use Rattle.campaign.proofs.Holding.{Filed, holds-together}
 use Rattle.campaign.proofs.Tallying.{used-standing}
 use Rattle.campaign.proofs.Refiling.{Day, many-none}
 use Rattle.campaign.proofs.Tests.{eqZ-same}

@@ -2,18 +2,18 @@
 -- the other, at most C. Assumes nothing.
 use mathlib.Core.Path.{_≡_, refl, sym, ap, ap₂, _∙_}
 use mathlib.Core.Bool.{Bool, true, false, cond}
-use Prim.Native.Nat.{ℕ, zero, suc, _+_, _-_, _≤_, _<_}
+use Prim.Native.Nat.{ℕ, zero, suc, _+_, _≤_, _<_}
 use native.Mathlib.Numerals.{add-one}
 use native.Mathlib.Decide.{ℕ-discrete}
 use native.Mathlib.Omega.{arith}
 use borrow.Author.Tests.{eq-eqb, ne-eqb}
 use lib.Dec.{eqb}
 use lib.IntN.{ℤ, pos, natAbs, _*ℤ_, zero-*ℤ}
-use Rattle.sums.specs.Sum.{sum, total, delta}
+use Rattle.sums.specs.Sum.{sum, delta}
 use Rattle.sums.specs.Lists.{many}
 use Rattle.sums.proofs.Ring.{one-*ℤ}
 use Rattle.sums.proofs.Sum.{sum-ext, sum-zero, sum-swap, sum-scale-r, sum-delta, delta-same, delta-other, natAbs-sum, pos-total}
-use Rattle.campaign.specs.Record.{standing, withdrawn, state, stands, daysIn, slot, free}
+use Rattle.campaign.specs.Record.{standing, state, stands, daysIn, slot, free}
 use Rattle.campaign.specs.declared.Campaign.{Campaign}
 use Rattle.campaign.proofs.Holding.{Filed}
 
@@ -44,7 +44,7 @@ module _ (c : Campaign) (f : Filed c) where
   unfolding hit
   by-slots v i l = elim (ℕ-discrete (state c (i + 1)) standing) [
     | yes e ↦ rw (eq-eqb (state c (i + 1)) standing e)
-      (sym (sum-scale-r (c .slots) (v (i + 1)) (hit (i + 1)) ∙ ap (λ z. z *ℤ v (i + 1)) (hits-one i l e) ∙ one-*ℤ (v (i + 1))))
+        (sym (sum-scale-r (c .slots) (v (i + 1)) (hit (i + 1)) ∙ ap (λ z. z *ℤ v (i + 1)) (hits-one i l e) ∙ one-*ℤ (v (i + 1))))
     | no n ↦ rw (ne-eqb (state c (i + 1)) standing n) (sym (none n))
   ]
     where

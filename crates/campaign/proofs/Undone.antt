@@ -1,15 +1,14 @@
 -- A kept entry followed at once by its withdrawal gives back store, sums and slots bit for bit. Assumes nothing.
-use mathlib.Core.Path.{_≡_, refl, sym, ap, ap₂, subst, _∙_}
-use mathlib.Core.Bool.{Bool, true, false, cond, not}
-use mathlib.Core.List.{List, [], _∷_}
-use Prim.Native.Nat.{ℕ, _+_, _-_, _*_, _≤_, _<_}
+use mathlib.Core.Path.{_≡_, sym, ap, _∙_}
+use mathlib.Core.Bool.{true, false, not}
+use mathlib.Core.List.{List}
+use Prim.Native.Nat.{ℕ, _+_, _-_, _≤_, _<_}
 use native.Mathlib.Decide.{decLt}
 use native.Mathlib.Nat.{mul-le-mul-right, suc-mul}
 use native.Mathlib.Omega.{arith}
 use borrow.Author.Tests.{eq-eqb, le-ltb}
-use lib.Dec.{eqb, ltb}
 use lib.IntN.{ℤ, pos, _+ℤ_, _-ℤ_}
-use lib.ListN.{length, getD, set}
+use lib.ListN.{length, set}
 use lib.Seq.{ext-getD, set-set, set-getD}
 use Rattle.sums.specs.Lists.{at, table, put, putAt}
 use Rattle.sums.specs.Refusals.{first}
@@ -24,7 +23,7 @@ use Rattle.campaign.specs.Run.{World, enter, withdraw, after, answer, ma
 use Rattle.campaign.specs.declared.Campaign.{Campaign}
 use Rattle.campaign.proofs.Holding.{Together, holds-together}
 use Rattle.campaign.proofs.Refiling.{Sized, Day, state-same, slot-same, slot-unique}
-use Rattle.campaign.proofs.Memory.{sample-same, store-length, together-kept}
+use Rattle.campaign.proofs.Memory.{sample-same, together-kept}
 use Rattle.campaign.proofs.Steps.{Entering, entering, slot-of-day}
 use Rattle.campaign.proofs.Steps as steps
 

@@ -2,7 +2,7 @@
 -- and -1 at every other shift up to P-1, indices counted modulo P. Assumes nothing.
 use mathlib.Core.Path.{_≡_, refl, sym, ap, ap₂, _∙_}
 use Prim.Native.Nat.{ℕ, zero, suc, _+_, _-_, _*_, _/_, _%_, _^_, _<_, min}
-use native.Mathlib.Nat.{add-zero, add-comm, mul-comm, pow-suc, mod-lt, mod-eq-of-lt, div-add-mod', zero-lt-suc}
+use native.Mathlib.Nat.{add-zero, add-comm, mul-comm, pow-suc, mod-lt, div-add-mod', zero-lt-suc}
 use native.Mathlib.Omega.{arith}
 use lib.Bits.{bitXor, xor-lt, xor-add-and, and-le-l, and-le-r}
 use lib.IntN.{ℤ, pos, negsuc, negℤ, _+ℤ_, _*ℤ_, +ℤ-invr}
@@ -13,7 +13,7 @@ use Rattle.sums.proofs.Ring.{neg-*ℤ, one-*ℤ}
 use Rattle.sums.proofs.Perm.{Visits}
 use Rattle.sums.proofs.Sign.{sign-+, sign-mod, sign-sq, sign-bit}
 use Rattle.sums.proofs.Sum.{sum-ext, sum-one, sum-+, sum-sub, sum-scale, sum-pairs, pos-total}
-use Rattle.register.specs.Register.{bitOf, dot, window, bit, wave, tag, Tapped, Maximal, Generator, P}
+use Rattle.register.specs.Register.{bitOf, dot, window, bit, wave, tag, Tapped, Generator, P}
 use Rattle.register.proofs.Dot.{dot-step, dot-xor, dot-zero, dot-comm, dot-double}
 use Rattle.register.proofs.Windows.{window-lt, step-inj, tag-lt, ahead}
 use Rattle.register.proofs.Recurrence.{bit-zero, bit-suc, window-bit}

@@ -1,8 +1,8 @@
 -- The windows of a register with tap 0 set: none is 0, and while it has not come back to all ones no two are the same. So it comes back
 -- after P steps at the latest, and where it does so first after P, a period meets every nonzero window exactly once. Assumes nothing.
-use mathlib.Core.Path.{_≡_, refl, sym, ap, _∙_}
-use Prim.Native.Nat.{ℕ, zero, suc, _+_, _-_, _*_, _/_, _%_, _^_, _≤_, _<_}
-use native.Mathlib.Nat.{le-of-suc-le-suc, suc-add, zero-add, zero-mul, suc-mul, add-assoc, add-zero}
+use mathlib.Core.Path.{_≡_, sym, ap, _∙_}
+use Prim.Native.Nat.{ℕ, zero, suc, _+_, _-_, _*_, _/_, _^_, _<_}
+use native.Mathlib.Nat.{suc-add, zero-add, zero-mul, suc-mul, add-assoc, add-zero}
 use native.Mathlib.Decide.{decLt}
 use native.Mathlib.Omega.{arith}
 use lib.IntN.{ℤ, _+ℤ_}
@@ -10,7 +10,7 @@ use lib.Pow.{pow-pos, pow-lt, suc-ones}
 use Rattle.sums.specs.Sum.{sum}
 use Rattle.sums.proofs.Sum.{sum-front}
 use Rattle.sums.proofs.Perm.{Visits, sum-visits, visits-all}
-use Rattle.register.specs.Register.{step, window, bit, Tapped, Maximal, P}
+use Rattle.register.specs.Register.{step, window, Tapped, Maximal, P}
 use Rattle.register.proofs.Dot.{dot-zero, dot-comm}
 use Rattle.register.proofs.Windows.{step-inj, window-lt}
 

@@ -1,8 +1,8 @@
 -- A new player's window, sign and count after k steps are those of place k, the count modulo 2^32, for any taps with tap 0 set, maximal or
 -- not. The count modulo P is not the place once it has wrapped: at order 3, after 2^32 steps, it says 0 and the place is 4. Assumes nothing.
-use mathlib.Core.Path.{_≡_, refl, sym, ap, ap₂, _∙_}
+use mathlib.Core.Path.{_≡_, refl, ap, _∙_}
 use mathlib.Core.List.{[], _∷_}
-use Prim.Native.Nat.{ℕ, zero, suc, _+_, _*_, _%_, _^_, _<_}
+use Prim.Native.Nat.{ℕ, zero, suc, _+_, _%_, _^_, _<_}
 use native.Mathlib.Nat.{mod-eq-of-lt, mod-add-mod}
 use native.Mathlib.Numerals.{add-one}
 use native.Mathlib.Omega.{arith}

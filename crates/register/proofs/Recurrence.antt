@@ -1,6 +1,6 @@
 -- The register's bits are the sequence of the textbook: the first N are 1, and s(k + N) is the sum of a(i) s(k + i) over i < N, modulo 2.
 -- Assumes nothing.
-use mathlib.Core.Path.{_≡_, refl, sym, ap, ap₂, _∙_}
+use mathlib.Core.Path.{_≡_, sym, ap, ap₂, _∙_}
 use Prim.Native.Nat.{ℕ, zero, suc, _+_, _-_, _*_, _/_, _%_, _^_, _<_, min}
 use native.Mathlib.Nat.{mod-lt, zero-lt-suc, le-of-suc-le-suc, le-of-lt, add-zero, add-suc, suc-add, add-comm, add-mod-mod, div-one, div-div-eq-div-mul, pow-succ'}
 use native.Mathlib.Omega.{arith}

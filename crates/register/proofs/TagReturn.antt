@@ -1,23 +1,23 @@
 -- The tags first return after P steps exactly where the register first returns to all ones after P steps, so taps may be judged by the tags,
 -- whose step is the cheaper. Assumes nothing.
-use mathlib.Core.Path.{_≡_, refl, sym, ap, ap₂, _∙_}
+use mathlib.Core.Path.{_≡_, refl, sym, ap, _∙_}
 use mathlib.Core.Logic.{_↔_}
 use Prim.Native.Nat.{ℕ, zero, suc, _+_, _-_, _%_, _^_, _≤_, _<_}
-use native.Mathlib.Nat.{add-comm, add-zero, add-suc, suc-add, zero-add, mod-lt, zero-lt-suc}
+use native.Mathlib.Nat.{add-comm, suc-add, zero-add}
 use native.Mathlib.Decide.{ℕ-discrete, decLt}
 use native.Mathlib.Omega.{arith}
 use borrow.Author.Tests.{eqb-true, eqb-false, eq-eqb, ne-eqb}
 use lib.Bits.{bitXor, xor-lt}
 use lib.Dec.{eqb}
-use lib.IntN.{ℤ, pos, natAbs}
+use lib.IntN.{pos, natAbs}
 use lib.Pow.{pow-pos, pow-lt}
 use Rattle.sums.specs.Sum.{sum, sign}
 use Rattle.sums.proofs.Perm.{Permutes, hits, Visits, visits-all}
 use Rattle.sums.proofs.Seek.{First, seek-first, first-unique}
 use Rattle.sums.proofs.Sum.{sum-ext, sum-one}
-use Rattle.register.specs.Register.{P, bitOf, dot, step, window, bit, tag-step, tag, tagPeriod, Tapped, Maximal, Generator}
-use Rattle.register.proofs.Dot.{dot-lt, dot-one, dot-xor, dot-zero}
-use Rattle.register.proofs.Windows.{step-lt, step-inj, window-lt, tag-lt, tag-step-lt, adjoint, ahead}
+use Rattle.register.specs.Register.{P, dot, step, window, bit, tag-step, tag, tagPeriod, Tapped, Maximal, Generator}
+use Rattle.register.proofs.Dot.{dot-lt, dot-one, dot-xor}
+use Rattle.register.proofs.Windows.{step-lt, step-inj, window-lt, tag-lt, adjoint, ahead}
 use Rattle.register.proofs.Recurrence.{window-bit}
 use Rattle.register.proofs.Orbit.{window-pos}
 use Rattle.register.proofs.Correlation.{balanced, bits-ext, bit-none, xor-pos, same-window, tag-pos, tags-differ, tags-visit}

@@ -1,14 +1,14 @@
 -- A room that was laid out, transformed and cleared is the room that was lent, cleared. Assumes nothing.
 use mathlib.Core.Path.{_≡_, sym, ap, _∙_}
 use mathlib.Core.List.{List, _++_}
-use Prim.Native.Nat.{ℕ, suc, _+_, _-_, _^_, _≤_, _<_}
+use Prim.Native.Nat.{ℕ, _+_, _-_, _^_}
 use native.Mathlib.Numerals.{add-one}
 use native.Mathlib.Omega.{arith}
 use lib.IntN.{ℤ, pos}
-use lib.ListN.{length, drop, length-drop}
+use lib.ListN.{drop, length-drop}
 use lib.Pow.{suc-ones}
 use lib.Seq.{drop-at, ext-getD, getD-drop}
-use Rattle.sums.specs.Lists.{at, table, put}
+use Rattle.sums.specs.Lists.{table, put}
 use Rattle.sums.proofs.Tables.{length-table, put-table}
 use Rattle.register.specs.Register.{P}
 use Rattle.response.specs.Calls.{clearedWide}

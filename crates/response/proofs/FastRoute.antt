@@ -1,9 +1,9 @@
 -- The fast route equals the formula: a recording laid out by the windows, transformed, and read at the tag of the delay P - k less what is
 -- read at 0, is r(k); a response laid out by those tags, transformed, and read at the window of place j, is the predicted y(j). Assumes nothing.
-use mathlib.Core.Path.{_≡_, refl, sym, ap, ap₂, _∙_}
+use mathlib.Core.Path.{_≡_, sym, ap, ap₂, _∙_}
 use mathlib.Core.List.{List}
-use Prim.Native.Nat.{ℕ, zero, suc, _+_, _-_, _*_, _/_, _%_, _^_, _≤_, _<_, min}
-use native.Mathlib.Nat.{mod-lt, mod-eq-of-lt, zero-lt-suc, add-comm}
+use Prim.Native.Nat.{ℕ, zero, suc, _+_, _-_, _*_, _/_, _%_, _^_, _<_, min}
+use native.Mathlib.Nat.{mod-lt, zero-lt-suc}
 use native.Mathlib.Omega.{arith}
 use lib.IntN.{ℤ, pos, natAbs, _-ℤ_, _*ℤ_, *ℤ-comm}
 use lib.ListN.{length, take}
@@ -15,9 +15,9 @@ use Rattle.sums.proofs.Perm.{Visits}
 use Rattle.sums.proofs.Ring.{one-*ℤ}
 use Rattle.sums.proofs.Sign.{sign-mod}
 use Rattle.sums.proofs.Sum.{sum-ext, total-ext}
-use Rattle.register.specs.Register.{P, dot, window, bit, wave, tag, Accepted}
+use Rattle.register.specs.Register.{P, dot, window, wave, tag, Accepted}
 use Rattle.register.proofs.Dot.{dot-step, dot-zero, dot-comm}
-use Rattle.register.proofs.Windows.{window-lt, tag-lt, ahead}
+use Rattle.register.proofs.Windows.{ahead}
 use Rattle.register.proofs.Orbit.{visits}
 use Rattle.register.proofs.Correlation.{wave-mod, tags-visit}
 use Rattle.register.proofs.Judged.{generator}

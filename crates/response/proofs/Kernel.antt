@@ -2,7 +2,7 @@
 -- is as loud as the numbers. Assumes nothing.
 use mathlib.Core.Path.{_≡_, refl, sym, ap, _∙_}
 use mathlib.Core.List.{List}
-use Prim.Native.Nat.{ℕ, suc, _<_}
+use Prim.Native.Nat.{ℕ, suc}
 use lib.IntN.{ℤ, pos, natAbs, _+ℤ_, _*ℤ_, +ℤ-idl, *ℤ-zero}
 use Rattle.sums.specs.Sum.{sum, total}
 use Rattle.sums.specs.Lists.{at}

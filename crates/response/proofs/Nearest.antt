@@ -1,6 +1,6 @@
 -- The nearest quotient of two natural numbers, from the quotient and the remainder.
 use mathlib.Core.Path.{_≡_, refl, sym}
-use Prim.Native.Nat.{ℕ, zero, suc, _+_, _-_, _*_, _/_, _%_, _≤_, _<_, _^_}
+use Prim.Native.Nat.{ℕ, _+_, _-_, _*_, _/_, _%_, _≤_, _<_}
 use native.Mathlib.Nat.{mul-left-comm, mul-le-mul-left, add-mul, div-eq-of-lt-le, div-add-mod', mod-lt, div-le-self, div-mul-le-self, lt-mul-div-succ, mul-comm}
 use mathlib.Core.Bool.{Bool, true, false}
 use lib.Dec.{ltb}

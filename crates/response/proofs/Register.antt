@@ -4,12 +4,11 @@ use mathlib.Core.Path.{_≡_, refl, sym, ap, _∙_}
 use Prim.Native.Nat.{ℕ, zero, suc, _+_, _-_, _*_, _%_, _≤_, _<_}
 use native.Mathlib.Nat.{mul-comm, le-trans, le-of-eq, mul-le-mul-right, mod-lt, zero-lt-suc}
 use native.Mathlib.Omega.{arith}
-use lib.IntN.{ℤ, pos, natAbs, _-ℤ_, _*ℤ_, _+ℤ_}
+use lib.IntN.{ℤ, pos, natAbs, _-ℤ_, _*ℤ_}
 use Rattle.sums.specs.Sum.{sum, total, sign}
 use Rattle.sums.proofs.Bound.{natAbs-*}
 use Rattle.sums.proofs.Ring.{ring}
-use Rattle.sums.proofs.Sign.{sign-bit}
-use Rattle.sums.proofs.Sum.{sum-ext, sum-sub, sum-turn, pos-total, total-ext, total-scaled, natAbs-total}
+use Rattle.sums.proofs.Sum.{sum-ext, sum-sub, sum-turn, pos-total, total-scaled, natAbs-total}
 use Rattle.register.specs.Register.{P, window, bit, wave, Generator}
 use Rattle.register.proofs.Correlation as C
 use Rattle.response.specs.Response.{correlation, response, prediction, Flat}

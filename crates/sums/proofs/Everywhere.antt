@@ -1,15 +1,14 @@
 -- A test that holds at every place, the places at which one holds counted, and a list with another put into it from some place on.
 -- Assumes nothing.
 use mathlib.Core.Path.{_≡_, refl, sym, ap, ap₂, subst, _∙_}
-use mathlib.Core.Bool.{Bool, true, false, cond, not, _&&_, _||_}
+use mathlib.Core.Bool.{Bool, true, false, cond, _&&_}
 use mathlib.Core.List.{List, _++_}
 use Prim.Native.Nat.{ℕ, zero, suc, _+_, _-_, _≤_, _<_}
-use native.Mathlib.Decide.{ℕ-discrete, decLt}
+use native.Mathlib.Decide.{ℕ-discrete}
 use native.Mathlib.Omega.{arith}
 use lib.Dec.{T}
 use lib.ListN.{length, getD, take, drop, length-append, length-drop, List·getD-append}
 use lib.Seq.{length-take-le, getD-append-add, getD-drop, getD-take}
-use Rattle.sums.specs.Sum.{total}
 use Rattle.sums.specs.Lists.{every, many, put, putAt}
 use Rattle.sums.proofs.Sum.{total-ext}
 use Rattle.sums.proofs.Tables.{length-put}

@@ -1,8 +1,6 @@
 -- `register::clock::new_player` meets its contract. Assumes nothing.
 use borrow.Author.Needs.{needs}
-use mathlib.Core.Path.{_≡_, sym, ap, _∙_}
-use Prim.Native.Nat.{ℕ}
-use Rattle.sums.specs.Refusals.{answered}
+use mathlib.Core.Path.{sym, _∙_}
 use Rattle.sums.proofs.First.{answered-refused}
 use Rattle.register.specs.Calls.{freshPlayer, newOutcome}
 use Rattle.register.specs.declared.NewPlayer.the-variants.{Ready, Refused}

@@ -1,9 +1,8 @@
 -- `register::sequence::write_bits` meets its contract: after k turns the first k bits are written, and the window is that of place k.
 -- Assumes nothing.
 use mathlib.Core.Path.{_≡_, ap}
-use Prim.Native.Nat.{ℕ, suc, _+_, _-_, _%_, _≤_, _<_}
+use Prim.Native.Nat.{ℕ, _-_, _%_, _≤_}
 use native.Mathlib.Omega.{arith}
-use lib.ListN.{length}
 use Rattle.sums.proofs.Tables.{Written, written-none, written-more, written-length}
 use Rattle.register.specs.Register.{window as windowOf, bit}
 use Rattle.register.proofs.Windows.{window-lt, window-next}

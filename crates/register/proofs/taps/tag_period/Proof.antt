@@ -1,7 +1,7 @@
 -- `register::taps::tag_period` meets its contract. The loop's invariant is `Walked`: so many steps have led to this tag, and what is sought
 -- lies ahead. The measure is what is left of the full period. Assumes nothing.
 use mathlib.Core.Path.{_≡_, refl, sym, ap, _∙_}
-use Prim.Native.Nat.{ℕ, suc, _+_, _-_, _^_, _≤_, _<_}
+use Prim.Native.Nat.{ℕ, suc, _+_, _-_, _≤_, _<_}
 use native.Mathlib.Numerals.{add-one}
 use native.Mathlib.Omega.{arith}
 use borrow.Author.Tests.{eq-eqb, ne-eqb}

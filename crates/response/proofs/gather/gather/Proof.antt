@@ -1,20 +1,15 @@
 -- `response::gather::gather` meets its contract: the places from k on are written, and the tag is that of the delay P - k. Assumes nothing.
-use mathlib.Core.Path.{_≡_, refl, sym, ap, ap₂, _∙_}
-use mathlib.Core.Logic.{⊎-elim}
-use Prim.Native.Nat.{ℕ, suc, _+_, _-_, _^_, _≤_, _<_}
-use native.Mathlib.Nat.{eq-or-lt-of-le}
+use mathlib.Core.Path.{_≡_, sym, ap, ap₂, _∙_}
+use Prim.Native.Nat.{ℕ, suc, _-_, _^_, _≤_, _<_}
 use native.Mathlib.Omega.{arith}
 use mathlib.Core.List.{List}
-use lib.IntN.{ℤ, pos, natAbs, _-ℤ_}
-use lib.ListN.{length, set, length-set}
-use lib.Seq.{getD-set-same, getD-set-other}
+use lib.IntN.{ℤ, pos, _-ℤ_}
 use mir.Syntax.{w64}
-use mir.Val.{toZ}
 use mir.Facts.{toZ-ofZ}
-use Rattle.sums.specs.Lists.{at, table, put}
+use Rattle.sums.specs.Lists.{at}
 use Rattle.sums.proofs.Bound.{small-fits, read, natAbs-sub}
 use Rattle.sums.proofs.Tables.{Back, back-none, back-more, back-all}
-use Rattle.register.specs.Register.{P, tag as tagOf}
+use Rattle.register.specs.Register.{tag as tagOf}
 use Rattle.register.proofs.Word.{small}
 use Rattle.register.proofs.Windows.{tag-lt, tag-next}
 use Rattle.response.proofs.gather.gather.Statement.{statement}

@@ -1,15 +1,14 @@
 -- `response::hear::some_heard_out` meets its contract: none of the samples passed is out of the range. Assumes nothing.
 use mathlib.Core.Path.{_≡_, refl, sym, ap, _∙_}
-use mathlib.Core.Bool.{true, false}
-use Prim.Native.Nat.{ℕ, _+_, _-_, _^_, _≤_, _<_}
+use mathlib.Core.Bool.{false}
+use Prim.Native.Nat.{_-_, _^_, _≤_, _<_}
 use native.Mathlib.Numerals.{add-one}
 use native.Mathlib.Omega.{arith}
-use lib.ListN.{length}
 use mir.Syntax.{w64}
 use Rattle.sums.specs.Lists.{at, some}
 use Rattle.sums.proofs.Bound.{read}
 use Rattle.sums.proofs.Somewhere.{some-at, some-past}
-use Rattle.register.specs.Register.{P, window as windowOf}
+use Rattle.register.specs.Register.{window as windowOf}
 use Rattle.register.proofs.Word.{small}
 use Rattle.register.proofs.Windows.{window-lt, window-next}
 use Rattle.response.specs.Calls.{sampleOut, someOut}

@@ -1,9 +1,7 @@
 -- `response::hear::write_heard` meets its contract: after j turns the first j samples are written. Assumes nothing.
-use mathlib.Core.Path.{_≡_, sym, ap, _∙_}
-use mathlib.Core.Bool.{false}
-use Prim.Native.Nat.{ℕ, _+_, _-_, _^_, _≤_, _<_}
+use mathlib.Core.Path.{_≡_, ap, _∙_}
+use Prim.Native.Nat.{_-_, _^_, _≤_, _<_}
 use native.Mathlib.Omega.{arith}
-use lib.ListN.{length}
 use mir.Syntax.{w32, w64}
 use mir.Val.{SFits}
 use mir.Facts.{toZ-ofZ}
@@ -11,7 +9,7 @@ use Rattle.sums.specs.Lists.{at}
 use Rattle.sums.proofs.Bound.{read}
 use Rattle.sums.proofs.Somewhere.{none-of}
 use Rattle.sums.proofs.Tables.{Written, written-none, written-more, written-length}
-use Rattle.register.specs.Register.{P, window as windowOf}
+use Rattle.register.specs.Register.{window as windowOf}
 use Rattle.register.proofs.Word.{small}
 use Rattle.register.proofs.Windows.{window-lt, window-next}
 use Rattle.response.specs.Calls.{sampleOut}

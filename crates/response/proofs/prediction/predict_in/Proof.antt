@@ -1,9 +1,8 @@
 -- `response::prediction::predict_in` meets its contract: what is read at the windows is the prediction. Assumes nothing.
 use borrow.Author.Needs.{needs}
 use mathlib.Core.Path.{_≡_, sym, ap, _∙_}
-use mathlib.Core.Bool.{Bool, true, false}
 use mathlib.Core.List.{List}
-use Prim.Native.Nat.{ℕ, _-_, _^_, _≤_, _<_}
+use Prim.Native.Nat.{ℕ, _-_, _^_, _<_}
 use native.Mathlib.Omega.{arith}
 use lib.IntN.{ℤ, pos}
 use lib.ListN.{length}
@@ -15,7 +14,7 @@ use Rattle.register.specs.Register.{P, window, wave, tag, Accepted}
 use Rattle.register.proofs.Windows.{window-lt}
 use Rattle.register.proofs.Word.{small}
 use Rattle.response.specs.Response.{prediction}
-use Rattle.response.specs.Calls.{sampleOut, someOut, heardOutcome}
+use Rattle.response.specs.Calls.{sampleOut, someOut}
 use Rattle.response.specs.Route.{Laid, spectrum}
 use Rattle.response.proofs.FastRoute.{tags-walk, loud, route-back}
 use Rattle.response.proofs.Samples.{quiet}

@@ -1,7 +1,7 @@
 -- `response::range::some_out` meets its contract: none of the values passed is out of the range. Assumes nothing.
 use mathlib.Core.Path.{_≡_, refl, sym, ap, _∙_}
-use mathlib.Core.Bool.{true, false}
-use Prim.Native.Nat.{suc, _≤_, _-_}
+use mathlib.Core.Bool.{false}
+use Prim.Native.Nat.{_≤_, _-_}
 use native.Mathlib.Numerals.{add-one}
 use native.Mathlib.Omega.{arith}
 use lib.ListN.{length}
@@ -11,9 +11,6 @@ use Rattle.sums.proofs.Somewhere.{some-at, some-past}
 use Rattle.response.specs.Calls.{sampleOut, someOut}
 use Rattle.response.proofs.range.some_out.Statement.{statement}
 use Rattle.response.proofs.range.some_out.Tie as tie
-use Rattle.response.proofs.range.some_out.Reads as reads
-use Rattle.response.proofs.range.some_out.Lts as lts
-use Rattle.response.proofs.range.sample_out.Reads as sample-out-reads
 
 abbrev Inv-loop : tie.InvT-loop
 Inv-loop y j₀ j = (j ≤ length y) × (someOut j (at y) ≡ false)

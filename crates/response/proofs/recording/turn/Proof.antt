@@ -1,9 +1,9 @@
 -- `response::recording::turn` meets its contract: the fast route equals the formula. Assumes nothing.
 use borrow.Author.Needs.{needs}
-use mathlib.Core.Path.{_≡_, sym, ap, _∙_}
-use Prim.Native.Nat.{ℕ, _+_, _<_}
+use mathlib.Core.Path.{ap, _∙_}
+use Prim.Native.Nat.{_+_, _<_}
 use native.Mathlib.Omega.{arith}
-use lib.ListN.{length, take}
+use lib.ListN.{length}
 use Rattle.sums.specs.Lists.{at, put}
 use Rattle.sums.proofs.Tables.{table-ext}
 use Rattle.register.specs.Register.{P}

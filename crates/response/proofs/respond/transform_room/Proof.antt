@@ -1,13 +1,12 @@
 -- `response::respond::transform_room` meets its contract: the transform of the part, and the rest as it was. Assumes nothing.
 use borrow.Author.Needs.{needs}
-use mathlib.Core.Path.{_≡_, refl, sym, ap₂, _∙_}
+use mathlib.Core.Path.{refl, sym, ap₂, _∙_}
 use mathlib.Core.List.{_++_}
-use Prim.Native.Nat.{_^_, _<_}
+use Prim.Native.Nat.{_^_}
 use native.Mathlib.Omega.{arith}
-use lib.ListN.{take, drop}
+use lib.ListN.{drop}
 use lib.Seq.{length-take-le}
 use Rattle.sums.proofs.Tables.{put-table}
-use Rattle.hadamard.specs.Transform.{loudness}
 use Rattle.response.specs.Route.{spectrum}
 use Rattle.response.proofs.respond.transform_room.Statement.{statement}
 use Rattle.response.proofs.respond.transform_room.Tie as tie

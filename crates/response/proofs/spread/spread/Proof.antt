@@ -1,10 +1,9 @@
 -- `response::spread::spread` meets its contract: after j turns the first j samples are laid out. Assumes nothing.
-use mathlib.Core.Path.{_≡_, sym, ap, _∙_}
+use mathlib.Core.Path.{_≡_, _∙_}
 use Prim.Native.Nat.{ℕ, _+_, _-_, _^_, _≤_, _<_}
 use native.Mathlib.Omega.{arith}
 use lib.IntN.{pos}
 use lib.ListN.{length, length-set}
-use lib.Pow.{pow-pos}
 use Rattle.sums.specs.Lists.{at}
 use Rattle.sums.proofs.Bound.{wide, wide-fits}
 use Rattle.sums.proofs.Perm.{Visits}
