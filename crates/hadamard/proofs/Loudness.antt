@@ -8,9 +8,8 @@ use lib.ListN.{length, take, drop, take-append-drop}
 use lib.IntN.{ℤ, natAbs, _*ℤ_}
 use Rattle.sums.specs.Sum.{sum, total, sign}
 use Rattle.sums.specs.Lists.{at}
-use Rattle.sums.proofs.Bound.{natAbs-+}
 use Rattle.sums.proofs.Sign.{natAbs-sign-*}
-use Rattle.sums.proofs.Sum.{total-front, total-ext}
+use Rattle.sums.proofs.Sum.{total-front, total-ext, natAbs-total}
 use Rattle.hadamard.specs.Transform.{common, transformed, loudness}
 use Rattle.hadamard.specs.Butterflies.{zip, folded}
 use Rattle.hadamard.proofs.Folds.{at-first, at-second}
@@ -79,11 +78,6 @@ module _ (f : ℤ → ℤ → ℤ) (bound : Bounded f) where
   loudness-folded half v = omega (arith, loudness-zip (take half v) (drop half v), loudness-parts half v)
 
 -- ---- the transform
-
-natAbs-total : (n : ℕ) (f : ℕ → ℤ) → natAbs (sum n f) ≤ total n (λ i. natAbs (f i))
-unfolding sum total
-natAbs-total zero f = zero-le
-natAbs-total (suc n) f = omega (arith, natAbs-+ (sum n f) (f n), natAbs-total n f)
 
 pub transformed-at-most : (n : ℕ) (v : List ℤ) (u : ℕ) → length v ≡ 2 ^ n → natAbs (transformed n v u) ≤ loudness v
 unfolding transformed loudness

@@ -5,7 +5,6 @@ pub mod Bound
 pub mod Sum
 pub mod Sign
 pub mod Perm
-pub mod Places
 pub mod Tables
 pub mod First
 pub mod Seek

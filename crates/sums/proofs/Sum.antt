@@ -144,12 +144,6 @@ sum-turn (suc P) d f =
     whole : suc P - r + r ≡ suc P
     whole = omega (arith, below)
 
-pub natAbs-delta-* : (k j : ℕ) (z : ℤ) → natAbs (delta k j *ℤ z) ≤ natAbs z
-natAbs-delta-* k j z = elim (ℕ-discrete j k) [
-  | yes e ↦ le-of-eq (ap (λ a. natAbs (a *ℤ z)) (ap (delta k) e ∙ delta-same k) ∙ ap natAbs (one-*ℤ z))
-  | no e ↦ le-trans (le-of-eq (ap (λ a. natAbs (a *ℤ z)) (delta-other k j e) ∙ ap natAbs (zero-*ℤ z))) zero-le
-]
-
 -- two halves, and the even and the odd terms
 pub sum-halves : (n : ℕ) (f : ℕ → ℤ) → sum (n + n) f ≡ sum n (λ i. f i +ℤ f (n + i))
 sum-halves n f = sum-split n n f ∙ sym (sum-+ n f (λ i. f (n + i)))
@@ -163,18 +157,6 @@ sum-pairs (suc n) f =
   where
     two-more : (n : ℕ) → 2 * suc n ≡ suc (suc (2 * n))
     two-more n = omega arith
-
--- numbers gathered by place and then weighed by place are weighed where they land
-pub delta-sym : (k j : ℕ) → delta k j ≡ delta j k
-delta-sym k j = elim (ℕ-discrete j k) [ yes e ↦ ap₂ delta (sym e) e | no e ↦ delta-other k j e ∙ sym (delta-other j k (λ q. e (sym q))) ]
-
-pub sum-landed : (M P : ℕ) (weight : ℕ → ℤ) (place : ℕ → ℕ) (y : ℕ → ℤ) → ((j : ℕ) → j < P → place j < M)
-    → sum M (λ w. weight w *ℤ sum P (λ j. delta w (place j) *ℤ y j)) ≡ sum P (λ j. weight (place j) *ℤ y j)
-sum-landed M P weight place y h =
-    sum-ext M (λ w _. sym (sum-scale P (weight w) (λ j. delta w (place j) *ℤ y j)))
-    ∙ sum-swap M P (λ w j. weight w *ℤ (delta w (place j) *ℤ y j))
-    ∙ sum-ext P (λ j k. sum-ext M (λ w _. *ℤ-left-comm (weight w) (delta w (place j)) (y j) ∙ ap (λ d. d *ℤ (weight w *ℤ y j)) (delta-sym w (place j)))
-    ∙ sum-delta M (place j) (λ w. weight w *ℤ y j) (h j k))
 
 -- ---- sums of naturals
 
