@@ -8,6 +8,7 @@ use native.Mathlib.Numerals.{add-one}
 use native.Mathlib.Omega.{arith}
 use borrow.Author.Tests.{ne-eqb, lt-leb}
 use lib.Count.{ones}
+use Rattle.sums.specs.Sum.{sign}
 use Rattle.sums.specs.Refusals.{first}
 use Rattle.sums.proofs.First.{passed-first}
 use Rattle.register.specs.Register.{dot, step, window, wave, bit, P, Shaped, Generator}
@@ -67,13 +68,18 @@ module _ (N taps : ℕ) (s : Shaped N taps) where
 
 -- ---- the count is not the place
 
-here : (bit 3 3 4 ≡ 0) × (bit 3 3 0 ≡ 1)
+four : (bit 3 3 4 ≡ 0) × (bit 3 3 0 ≡ 1)
 unfolding bit window step dot ones
-here = (refl, refl)
+four = (refl, refl)
 
--- at order 3, taps 3, the count that says 0 after 2^32 steps stands at place 4, where another bit goes out
-pub count-misleads : (bit 3 3 (2 ^ 32) ≡ 0) × (bit 3 3 (2 ^ 32 % 2 ^ 32 % P 3) ≡ 1)
-unfolding bit
+-- at order 3, taps 3, after 2^32 steps the count says 0, where a 1 goes out; the player is at place 4 and gives the sign of a 0
+pub count-misleads : (played 3 3 (2 ^ 32) .count ≡ 0) × (stepOutcome (played 3 3 (2 ^ 32)) .tick ≡ Sign (sign 0)) × (wave 3 3 (0 % P 3) ≡ sign 1)
+unfolding wave bit
 count-misleads =
     let g : Generator 3 3 = certify 3 3 tt in
-    (ap (λ w. w % 2) (window-rounds 3 3 (g .tapped) (g .maximal) 613566756 4) ∙ here .0, here .1)
+    let s : Shaped 3 3 = record { least = omega arith; most = omega arith; tapped = g .tapped } in
+    (
+      ap (λ p. p .count) (place 3 3 s (2 ^ 32)),
+      sign-at 3 3 s (2 ^ 32) ∙ ap (λ w. Sign (sign (w % 2))) (window-rounds 3 3 (g .tapped) (g .maximal) 613566756 4) ∙ ap (λ b. Sign (sign b)) (four .0),
+      ap sign (four .1),
+    )
