@@ -2,3 +2,4 @@
 pub mod Record
 pub mod Calls
 pub mod Run
+pub mod Blocks

@@ -1,4 +1,5 @@
 // A campaign of days: the record, and what each call answers.
+mod stored;
 
 // A year of nights.
 pub const DAYS: usize = 366;
