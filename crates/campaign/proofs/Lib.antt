@@ -15,3 +15,4 @@ pub mod Numbers
 pub mod Bounds
 pub mod Leveling
 pub mod Rows
+pub mod Reading

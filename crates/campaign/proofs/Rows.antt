@@ -1,7 +1,7 @@
 -- A loop that tests place after place: what its answer is when a test fails, and when none has. Assumes nothing.
-use mathlib.Core.Path.{_≡_, refl, sym, ap, subst, _∙_}
+use mathlib.Core.Path.{_≡_, refl, sym, ap, ap₂, subst, _∙_}
 use mathlib.Core.Bool.{Bool, true, false, _&&_}
-use Prim.Native.Nat.{ℕ, suc, _+_, _<_}
+use Prim.Native.Nat.{ℕ, zero, suc, _+_, _<_}
 use native.Mathlib.Numerals.{add-one}
 use native.Mathlib.Omega.{arith}
 use lib.Dec.{T}
@@ -18,6 +18,12 @@ not-true false h = refl
 
 pub eqZ-other : (a b : ℤ) → (a ≡ b → ⊥) → eqZ a b ≡ false
 eqZ-other a b n = not-true (eqZ a b) (λ e. n (eqZ-is a b e))
+
+-- only the places below n count
+pub every-ext : (n : ℕ) {f g : ℕ → Bool} → ((i : ℕ) → i < n → f i ≡ g i) → every n f ≡ every n g
+unfolding every
+every-ext zero h = refl
+every-ext (suc n) h = ap₂ _&&_ (every-ext n (λ i l. h i (omega arith))) (h n (omega arith))
 
 module _ (test : ℕ → Bool) where
   pub every-fails : (n j : ℕ) → j < n → test j ≡ false → every n test ≡ false

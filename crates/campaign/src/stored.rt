@@ -1,14 +1,14 @@
 // The store and the sums against the slots: read once, in blocks of places, slot by slot.
 use response::clear::clear_wide;
 ghost use mathlib.Core.Path.{_≡_};
-ghost use mathlib.Core.Bool.{true};
-ghost use Prim.Native.Nat.{ℕ, _+_, _*_, _^_, _≤_};
-ghost use mathlib.Core.Bool.{Bool, cond};
+ghost use Prim.Native.Nat.{ℕ, _+_, _*_, _^_, _≤_, _<_};
+ghost use mathlib.Core.Bool.{Bool, true, cond};
+ghost use lib.Dec.{eqb};
 ghost use lib.IntN.{ℤ, pos, natAbs, _+ℤ_};
 ghost use lib.ListN.{length};
 ghost use Rattle.sums.specs.Lists.{at, every};
 ghost use Rattle.campaign.specs.Record.{inside, eqZ};
-ghost use Rattle.campaign.specs.Blocks.{Block, Row};
+ghost use Rattle.campaign.specs.Blocks.{Block};
 
 // Whether a sample lies strictly between the rails.
 fn between_rails(x: i32) -> bool
@@ -19,7 +19,7 @@ fn between_rails(x: i32) -> bool
 
 // A used slot's samples at some places, added to their sums: whether all lie strictly between the rails.
 fn add_row(row: &[i32], sums: &mut [i64]) -> bool
-    requires { ⌜ (length (now row) ≤ length (now sums)) × ((j : ℕ) → natAbs (at (now sums) j) ≤ 2 ^ 40) ⌝ }
+    requires { ⌜ (length (now row) ≤ length (now sums)) × ((j : ℕ) → j < length (now row) → natAbs (at (now sums) j) ≤ 2 ^ 40) ⌝ }
     ensures { λ r. ⌜ (r ≡ every (length (now (row .entry))) (λ j. inside (at (now (row .entry)) j)))
         × ((j : ℕ) → at (now (sums .exit)) j ≡ at (now (sums .entry)) j +ℤ at (now (row .entry)) j) ⌝ }
 {
@@ -61,4 +61,47 @@ fn same_sums(sums: &[i64], found: &[i64]) -> bool
         j += 1;
     }
     true
+}
+
+// A slot's samples at some places: zeros where no day has it, else between the rails and added to their sums.
+fn take_row(day: u16, row: &[i32], sums: &mut [i64]) -> bool
+    requires { ⌜ (length (now row) ≤ length (now sums)) × ((j : ℕ) → j < length (now row) → natAbs (at (now sums) j) ≤ 2 ^ 40) ⌝ }
+    ensures { λ r. ⌜ (r ≡ cond (eqb day 0) (every (length (now (row .entry))) (λ j. eqZ (at (now (row .entry)) j) (pos 0)))
+        (every (length (now (row .entry))) (λ j. inside (at (now (row .entry)) j))))
+        × ((j : ℕ) → at (now (sums .exit)) j ≡ at (now (sums .entry)) j +ℤ cond (eqb day 0) (pos 0) (at (now (row .entry)) j)) ⌝ }
+{
+    if day == 0 {
+        return zero_row(row);
+    }
+    add_row(row, sums)
+}
+
+// Whether the places from `from` on hold together, their sums worked out in the room lent.
+fn block_holds(
+    table: &[u16],
+    slots: usize,
+    period: usize,
+    store: &[i32],
+    sums: &[i64],
+    from: usize,
+    count: usize,
+    found: &mut [i64],
+) -> bool
+    requires { ⌜ (slots ≤ 64) × (length (now table) ≡ 64) × (slots * period ≤ length (now store)) × (period ≤ length (now sums)) ⌝ }
+    requires { ⌜ (from + count ≤ period) × (count ≤ length (now found)) ⌝ }
+    ensures { λ r. ⌜ (r ≡ true → Block (now (table .entry)) slots period (now (store .entry)) (now (sums .entry)) from count)
+        × (Block (now (table .entry)) slots period (now (store .entry)) (now (sums .entry)) from count → r ≡ true) ⌝ }
+{
+    clear_wide(found, count);
+    let mut s = 0;
+    while s < slots {
+        let at = s * period + from;
+        let end = at + count;
+        if !take_row(table[s], &store[at..end], found) {
+            return false;
+        }
+        s += 1;
+    }
+    let to = from + count;
+    same_sums(&sums[from..to], found)
 }

@@ -55,7 +55,7 @@ add-sums c =
     let x = at (b .args .row .now) (l .loop .j) in
     let v = at (l .loop .sums) (l .loop .j) in
     rw (read w64 v (c .sums .given), wide x (c .before .before .x .given))
-    (small-fits w64 _ (omega (arith, natAbs-+ v x, ap natAbs (l .loop .inv .4 (l .loop .j) (omega arith)), b .pre .1 (l .loop .j), natAbs-≤ x, c .before .before .x .given)))
+    (small-fits w64 _ (omega (arith, natAbs-+ v x, ap natAbs (l .loop .inv .4 (l .loop .j) (omega arith)), b .pre .1 (l .loop .j) (omega arith), natAbs-≤ x, c .before .before .x .given)))
 
 slice-set-from-sums : tie.Need-slice-set-from-sums Inv-loop μ-loop
 slice-set-from-sums c = slice-copy-out-sums (c .before)
