@@ -6,7 +6,7 @@ use mathlib.Core.List.{List}
 use Prim.Native.Nat.{ℕ, zero, suc, _+_, _-_, _*_, _^_, _≤_, _<_}
 use native.Mathlib.Nat.{add-assoc}
 use native.Mathlib.Numerals.{add-one}
-use native.Mathlib.Decide.{ℕ-discrete}
+use native.Mathlib.Decide.{ℕ-discrete, decLt}
 use native.Mathlib.Omega.{arith}
 use borrow.Author.Tests.{eq-eqb, ne-eqb}
 use lib.Dec.{T, eqb}
@@ -51,19 +51,19 @@ module _ (table : List ℕ) (P : ℕ) (store : List ℤ) (a n : ℕ) where
     row-holds t =
         record {
           used = λ u j h l.
-            let k = every-at n (λ j. inside (at row j)) (sym (ap (λ b. cond b (every n (λ j. eqZ (at row j) (pos 0))) (every n (λ j. inside (at row j)))) (ne-eqb (getD table s 0) 0 u)) ∙ t) (j - a) (omega arith) in
-            subst (λ z. inside z ≡ true) (is (j - a) (omega arith) ∙ ap (λ m. at store (s * P + m)) (split a j h)) k;
+              let k = every-at n (λ j. inside (at row j)) (sym (ap (λ b. cond b (every n (λ j. eqZ (at row j) (pos 0))) (every n (λ j. inside (at row j)))) (ne-eqb (getD table s 0) 0 u)) ∙ t) (j - a) (omega arith) in
+              subst (λ z. inside z ≡ true) (is (j - a) (omega arith) ∙ ap (λ m. at store (s * P + m)) (split a j h)) k;
           zeros = λ e j h l.
-            let k = every-at n (λ j. eqZ (at row j) (pos 0)) (sym (ap (λ b. cond b (every n (λ j. eqZ (at row j) (pos 0))) (every n (λ j. inside (at row j)))) (eq-eqb (getD table s 0) 0 e)) ∙ t) (j - a) (omega arith) in
-            ap (λ m. at store (s * P + m)) (sym (split a j h)) ∙ sym (is (j - a) (omega arith)) ∙ eqZ-is (at row (j - a)) (pos 0) k;
+              let k = every-at n (λ j. eqZ (at row j) (pos 0)) (sym (ap (λ b. cond b (every n (λ j. eqZ (at row j) (pos 0))) (every n (λ j. inside (at row j)))) (eq-eqb (getD table s 0) 0 e)) ∙ t) (j - a) (omega arith) in
+              ap (λ m. at store (s * P + m)) (sym (split a j h)) ∙ sym (is (j - a) (omega arith)) ∙ eqZ-is (at row (j - a)) (pos 0) k;
         }
 
     row-passes : Row table P store a n s → tested (getD table s 0) n row ≡ true
     row-passes r = elim (ℕ-discrete (getD table s 0) 0) [
       | yes e ↦ ap (λ b. cond b (every n (λ j. eqZ (at row j) (pos 0))) (every n (λ j. inside (at row j)))) (eq-eqb (getD table s 0) 0 e)
-        ∙ every-all n (λ j. eqZ (at row j) (pos 0)) (λ j l. eqZ-same (is j l ∙ r .zeros e (a + j) (omega arith) (omega arith)))
+          ∙ every-all n (λ j. eqZ (at row j) (pos 0)) (λ j l. eqZ-same (is j l ∙ r .zeros e (a + j) (omega arith) (omega arith)))
       | no u ↦ ap (λ b. cond b (every n (λ j. eqZ (at row j) (pos 0))) (every n (λ j. inside (at row j)))) (ne-eqb (getD table s 0) 0 u)
-        ∙ every-all n (λ j. inside (at row j)) (λ j l. subst (λ z. inside z ≡ true) (sym (is j l)) (r .used u (a + j) (omega arith) (omega arith)))
+          ∙ every-all n (λ j. inside (at row j)) (λ j l. subst (λ z. inside z ≡ true) (sym (is j l)) (r .used u (a + j) (omega arith) (omega arith)))
     ]
 
     -- one row more
@@ -73,7 +73,7 @@ module _ (table : List ℕ) (P : ℕ) (store : List ℤ) (a n : ℕ) where
         rw add-one (record {
           rows = λ u l. elim (ℕ-discrete u s) [ yes e ↦ subst (Row table P store a n) (sym e) (row-holds t) | no e ↦ r .rows u (omega arith) ];
           sums = λ j l.
-            added j ∙ ap₂ (λ x z. x +ℤ cond (eqb (getD table s 0) 0) (pos 0) z) (r .sums j l) (is j l) ∙ sym (sum-suc s (part table P store (a + j)));
+              added j ∙ ap₂ (λ x z. x +ℤ cond (eqb (getD table s 0) 0) (pos 0) z) (r .sums j l) (is j l) ∙ sym (sum-suc s (part table P store (a + j)));
         })
 
     -- a row that fails
@@ -87,9 +87,9 @@ module _ (table : List ℕ) (P : ℕ) (store : List ℤ) (a n : ℕ) where
         record {
           rows = r .rows;
           total = λ j h l.
-            let e : a + (j - a) ≡ j = omega arith in
-            ap (at sums) (sym e) ∙ eqZ-is (at sums (a + (j - a))) (at found (j - a)) (every-at n (λ j. eqZ (at sums (a + j)) (at found j)) t (j - a) (omega arith))
-            ∙ r .sums (j - a) (omega arith) ∙ ap (λ m. sum C (part table P store m)) e;
+              let e : a + (j - a) ≡ j = omega arith in
+              ap (at sums) (sym e) ∙ eqZ-is (at sums (a + (j - a))) (at found (j - a)) (every-at n (λ j. eqZ (at sums (a + j)) (at found j)) t (j - a) (omega arith))
+              ∙ r .sums (j - a) (omega arith) ∙ ap (λ m. sum C (part table P store m)) e;
         }
 
     pub sums-pass : Block table C P store sums a n → every n (λ j. eqZ (at sums (a + j)) (at found j)) ≡ true
@@ -106,3 +106,33 @@ module _ (table : List ℕ) (P : ℕ) (store : List ℤ) (a n : ℕ) where
         | yes e ↦ rw (eq-eqb (getD table t 0) 0 e) (omega arith)
         | no u ↦ rw (ne-eqb (getD table t 0) 0 u) (omega (arith, inside-size (at store (t * P + (a + j))) (r .rows t k .used u (a + j) (omega arith) (omega arith))))
       ]
+
+-- ---- block after block
+
+module _ {table : List ℕ} {C P : ℕ} {store sums : List ℤ} where
+  pub no-block : Block table C P store sums 0 0
+  no-block =
+      record {
+        rows = λ s l. record { used = λ u j h k. absurd (omega arith); zeros = λ e j h k. absurd (omega arith) };
+        total = λ j h k. absurd (omega arith);
+      }
+
+  pub next-block : {a n : ℕ} → Block table C P store sums 0 a → Block table C P store sums a n → Block table C P store sums 0 (a + n)
+  next-block {a} {n} p q =
+      record {
+        rows = λ s l. record {
+          used = λ u j h k. elim (decLt j a) [ yes m ↦ p .rows s l .used u j h (omega arith) | no m ↦ q .rows s l .used u j (omega arith) (omega arith) ];
+          zeros = λ e j h k. elim (decLt j a) [ yes m ↦ p .rows s l .zeros e j h (omega arith) | no m ↦ q .rows s l .zeros e j (omega arith) (omega arith) ];
+        };
+        total = λ j h k. elim (decLt j a) [ yes m ↦ p .total j h (omega arith) | no m ↦ q .total j (omega arith) (omega arith) ];
+      }
+
+  pub a-block : {a n : ℕ} → Block table C P store sums 0 P → a + n ≤ P → Block table C P store sums a n
+  a-block p f =
+      record {
+        rows = λ s l. record {
+          used = λ u j h k. p .rows s l .used u j (omega arith) (omega arith);
+          zeros = λ e j h k. p .rows s l .zeros e j (omega arith) (omega arith);
+        };
+        total = λ j h k. p .total j (omega arith) (omega arith);
+      }

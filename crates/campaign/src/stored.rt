@@ -1,7 +1,7 @@
 // The store and the sums against the slots: read once, in blocks of places, slot by slot.
 use response::clear::clear_wide;
 ghost use mathlib.Core.Path.{_≡_};
-ghost use Prim.Native.Nat.{ℕ, _+_, _*_, _^_, _≤_, _<_};
+ghost use Prim.Native.Nat.{ℕ, _+_, _*_, _^_, _≤_, _<_, min};
 ghost use mathlib.Core.Bool.{Bool, true, cond};
 ghost use lib.Dec.{eqb};
 ghost use lib.IntN.{ℤ, pos, natAbs, _+ℤ_};
@@ -104,4 +104,46 @@ fn block_holds(
     }
     let to = from + count;
     same_sums(&sums[from..to], found)
+}
+
+fn smaller(a: usize, b: usize) -> usize
+    ensures { λ r. ⌜ r ≡ min a b ⌝ }
+{
+    if a < b { a } else { b }
+}
+
+// Whether all places hold together, block after block.
+fn blocks_hold(
+    table: &[u16],
+    slots: usize,
+    period: usize,
+    store: &[i32],
+    sums: &[i64],
+    found: &mut [i64],
+) -> bool
+    requires { ⌜ (slots ≤ 64) × (length (now table) ≡ 64) × (slots * period ≤ length (now store)) × (period ≤ length (now sums)) ⌝ }
+    requires { ⌜ 0 < length (now found) ⌝ }
+    ensures { λ r. ⌜ (r ≡ true → Block (now (table .entry)) slots period (now (store .entry)) (now (sums .entry)) 0 period)
+        × (Block (now (table .entry)) slots period (now (store .entry)) (now (sums .entry)) 0 period → r ≡ true) ⌝ }
+{
+    let size = found.len();
+    let mut from = 0;
+    while from < period {
+        let count = smaller(period - from, size);
+        if !block_holds(table, slots, period, store, sums, from, count, found) {
+            return false;
+        }
+        from += count;
+    }
+    true
+}
+
+// The same, with the sums of a block in a room of its own.
+pub fn store_holds(table: &[u16], slots: usize, period: usize, store: &[i32], sums: &[i64]) -> bool
+    requires { ⌜ (slots ≤ 64) × (length (now table) ≡ 64) × (slots * period ≤ length (now store)) × (period ≤ length (now sums)) ⌝ }
+    ensures { λ r. ⌜ (r ≡ true → Block (now (table .entry)) slots period (now (store .entry)) (now (sums .entry)) 0 period)
+        × (Block (now (table .entry)) slots period (now (store .entry)) (now (sums .entry)) 0 period → r ≡ true) ⌝ }
+{
+    let mut found: [i64; 1024] = [0; 1024];
+    blocks_hold(table, slots, period, store, sums, &mut found)
 }

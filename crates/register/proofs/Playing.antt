@@ -77,8 +77,7 @@ pub count-misleads : (played 3 3 (2 ^ 32) .count ≡ 0) × (stepOutcome (played 
 unfolding wave bit
 count-misleads =
     let g : Generator 3 3 = certify 3 3 tt in
-    let s : Shaped 3 3 = record { least = omega arith; most = omega arith; tapped = g .tapped } in
-    (
+    let s : Shaped 3 3 = record { least = omega arith; most = omega arith; tapped = g .tapped } in (
       ap (λ p. p .count) (place 3 3 s (2 ^ 32)),
       sign-at 3 3 s (2 ^ 32) ∙ ap (λ w. Sign (sign (w % 2))) (window-rounds 3 3 (g .tapped) (g .maximal) 613566756 4) ∙ ap (λ b. Sign (sign b)) (four .0),
       ap sign (four .1),

@@ -75,8 +75,7 @@ loop-again c =
     let x = at row j in
     let v = at (l .loop .sums) j in
     let i = l .loop .inv in
-    let new = toZ-ofZ (add-sums c) ∙ ap₂ _+ℤ_ (read w64 v (c .sums .given)) (wide x (c .before .before .x .given)) ∙ ap (λ z. z +ℤ x) (i .4 j (omega arith)) in
-    (
+    let new = toZ-ofZ (add-sums c) ∙ ap₂ _+ℤ_ (read w64 v (c .sums .given)) (wide x (c .before .before .x .given)) ∙ ap (λ z. z +ℤ x) (i .4 j (omega arith)) in (
       omega arith,
       ap₂ _&&_ (i .1) (c .before .between-rails .ensures ∙ ap inside (read w32 x (c .before .before .x .given))) ∙ sym (every-next (λ k. inside (at row k)) j),
       length-set (l .loop .sums) j _ ∙ i .2,
@@ -95,8 +94,7 @@ returns c =
     let b = c .before .before in
     let row = b .args .row .now in
     let i = c .before .loop .inv in
-    let e : c .before .loop .j ≡ length row = omega arith in
-    (
+    let e : c .before .loop .j ≡ length row = omega arith in (
       rw e at (i .1),
       λ j. elim (decLt j (length row)) [
         | yes h ↦ i .3 j (omega arith)

@@ -99,8 +99,7 @@ take-row-requires c κs =
     let l = c .before .before .before in
     let b = l .before .before .before .before .before .before in
     let i = l .before .loop .inv in
-    let cleared = c .before .before .before .before .before .before .clear-wide .kept .0 in
-    (
+    let cleared = c .before .before .before .before .before .before .clear-wide .kept .0 in (
       omega (arith, row-long l, i .1, b .pre .1 .1, cleared),
       λ j h. found-small _ _ _ _ _ (i .2) (omega (arith, b .pre .0 .0)) j (omega (arith, row-long l)),
     )
@@ -121,8 +120,7 @@ returns : tie.Need-returns Inv-loop μ-loop
 returns c =
     let t = c .before .before in
     let l = t .before .before .before .before in
-    let a = l .before .before .before .before .before .before .args in
-    (
+    let a = l .before .before .before .before .before .before .args in (
       λ e. absurd (true≢false (sym e)),
       λ b. absurd (row-refutes (a .table .now) (a .period) (a .store .now) (a .from) (a .count) (l .before .loop .s) (row l) (row-holds-at l) (l .loop-test .taken)
           (sym (told t) ∙ not-true _ (c .if1 .taken)) b),
@@ -138,12 +136,11 @@ loop-again : tie.Need-loop-again Inv-loop μ-loop
 loop-again c =
     let t = c .before .before in
     let l = t .before .before .before .before in
-    let a = l .before .before .before .before .before .before .args in
-    (
+    let a = l .before .before .before .before .before .before .args in (
       omega arith,
       kept-long t,
       more-read (a .table .now) (a .period) (a .store .now) (a .from) (a .count) (l .before .loop .s) (row l) (row-holds-at l) (l .before .loop .inv .2)
-      (sym (told t) ∙ not-false _ (c .if1 .left)) (t .take-row .ensures .1),
+          (sym (told t) ∙ not-false _ (c .if1 .left)) (t .take-row .ensures .1),
     )
 
 add-to : tie.Need-add-to Inv-loop μ-loop
@@ -193,7 +190,7 @@ compared c =
     let a = e .before .before .before .before .before .before .args in
     rw (part-long e) at (c .same-sums .ensures)
     ∙ every-ext (a .count) (λ j h. ap (λ z. eqZ z (at (e .before .loop .found) j))
-      (ap (λ v. at v j) (part-is e) ∙ getD-take (a .count) (drop (a .from) (a .sums .now)) j (pos 0) h ∙ getD-drop (a .from) (a .sums .now) j (pos 0)))
+    (ap (λ v. at v j) (part-is e) ∙ getD-take (a .count) (drop (a .from) (a .sums .now)) j (pos 0) h ∙ getD-drop (a .from) (a .sums .now) j (pos 0)))
 
 returns-2 : tie.Need-returns-2 Inv-loop μ-loop
 returns-2 c =
@@ -201,8 +198,7 @@ returns-2 c =
     let a = e .before .before .before .before .before .before .args in
     let i = e .before .loop .inv in
     let n : e .before .loop .s ≡ a .slots = omega arith in
-    let r = rw n at (i .2) in
-    (
+    let r = rw n at (i .2) in (
       λ t. sums-hold (a .table .now) (a .period) (a .store .now) (a .from) (a .count) r (sym (compared c) ∙ t),
       λ b. compared c ∙ sums-pass (a .table .now) (a .period) (a .store .now) (a .from) (a .count) r b,
     )

@@ -53,11 +53,10 @@ loop-less c = omega arith
 loop-again : tie.Need-loop-again Inv-loop μ-loop
 loop-again c =
     let a = c .before .before .before .before .before .args in
-    let j = c .before .before .before .before .loop .j in
-    (
+    let j = c .before .before .before .before .loop .j in (
       omega arith,
       every-more (λ i. eqZ (at (a .sums .now) i) (at (a .found .now) i)) j (c .before .before .before .before .loop .inv .1)
-      (eqZ-same (same-bits w64 (at (a .sums .now) j) (at (a .found .now) j) (record { sfits = c .before .before .if12 .given }) (record { sfits = c .before .if13 .given }) (c .if1 .left))),
+          (eqZ-same (same-bits w64 (at (a .sums .now) j) (at (a .found .now) j) (record { sfits = c .before .before .if12 .given }) (record { sfits = c .before .if13 .given }) (c .if1 .left))),
     )
 
 returns-2 : tie.Need-returns-2 Inv-loop μ-loop

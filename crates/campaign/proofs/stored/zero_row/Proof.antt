@@ -47,11 +47,10 @@ loop-less c = omega arith
 loop-again : tie.Need-loop-again Inv-loop μ-loop
 loop-again c =
     let y = c .before .before .before .before .args .row .now in
-    let j = c .before .before .before .loop .j in
-    (
+    let j = c .before .before .before .loop .j in (
       omega arith,
       every-more (λ i. eqZ (at y i) (pos 0)) j (c .before .before .before .loop .inv .1)
-      (eqZ-same (same-bits w32 (at y j) (pos 0) (record { sfits = c .before .if12 .given }) (record { sfits = omega arith }) (c .if1 .left))),
+          (eqZ-same (same-bits w32 (at y j) (pos 0) (record { sfits = c .before .if12 .given }) (record { sfits = omega arith }) (c .if1 .left))),
     )
 
 returns-2 : tie.Need-returns-2 Inv-loop μ-loop
