@@ -16,3 +16,4 @@ pub mod Bounds
 pub mod Leveling
 pub mod Rows
 pub mod Reading
+pub mod Loops

@@ -1,5 +1,6 @@
 // A campaign of days: the record, and what each call answers.
 mod stored;
+mod tables;
 
 // A year of nights.
 pub const DAYS: usize = 366;
