@@ -1,7 +1,7 @@
 -- Holding together, as a fact for each clause: the test of the specification holds exactly where these facts do. Assumes nothing.
 use mathlib.Core.Path.{_≡_, ap}
 use mathlib.Core.Logic.{_↔_}
-use mathlib.Core.Bool.{true, not, _&&_, _||_}
+use mathlib.Core.Bool.{Bool, true, not, _&&_, _||_}
 use mathlib.Core.List.{List}
 use Prim.Native.Nat.{ℕ, _+_, _*_, _≤_, _<_}
 use native.Mathlib.Decide.{decLt, ℕ-discrete}
@@ -38,10 +38,38 @@ pub record Together (c : Campaign) (store sums : List ℤ) : Type 0 where
   pub zeros : (s : ℕ) → s < c .slots → slot c s ≡ 0 → (j : ℕ) → j < P (c .order) → sample c store s j ≡ pos 0
   pub total : (j : ℕ) → j < P (c .order) → at sums j ≡ usedTotal c store j
 
+-- the tests of the slots and of the days' states
+abbrev pub filedTests : Campaign → Bool
+filedTests c = slotsHold c && statesHold c && pastFree c && slotsStand c && oneSlot c
+
+module _ (c : Campaign) where
+  pub filed-by : tapsHold c ≡ true → filedTests c ≡ true → Filed c
+  filed-by taps h =
+      let k4 = and-true _ (oneSlot c) h in
+      let k3 = and-true _ (slotsStand c) (k4 .0) in
+      let k2 = and-true _ (pastFree c) (k3 .0) in
+      let k1 = and-true (slotsHold c) (statesHold c) (k2 .0) in
+      let range = and-true (leb 1 (c .slots)) (leb (c .slots) 64) (k1 .0) in
+      record {
+        accepted = accepted-exactly (c .order) (c .taps) .0 (eqb-true (tapsAnswer (c .order) (c .taps)) 0 taps);
+        least = leb-true 1 (c .slots) (range .0);
+        most = leb-true (c .slots) 64 (range .1);
+        states = λ i l. leb-true (state c (i + 1)) withdrawn (every-at 366 _ (k1 .1) i l);
+        past = λ s l p. eqb-true (slot c s) 0 (or-right (ltb s (c .slots)) (free c s) (every-at 64 _ (k2 .1) s l) (le-ltb s (c .slots) p));
+        named = λ s l u.
+            let two = and-true (leb (slot c s) 366) (stands c (slot c s)) (or-right (free c s) _ (every-at (c .slots) _ (k3 .1) s l) (ne-eqb (slot c s) 0 u)) in
+            (leb-true (slot c s) 366 (two .0), eqb-true (state c (slot c s)) standing (two .1));
+        one = λ i l q.
+            eqb-true (many (c .slots) (λ s. eqb (slot c s) (i + 1))) 1
+            (or-right (not (stands c (i + 1))) _ (every-at 366 _ (k4 .1) i l) (ap not (eq-eqb (state c (i + 1)) standing q)));
+      }
+
 module _ (c : Campaign) (store sums : List ℤ) where
-  to : together c store sums ≡ true → Together c store sums
+  -- the tests one by one
+  tests : together c store sums ≡ true
+      → (tapsHold c ≡ true) × (filedTests c ≡ true) × (roomHolds c store sums ≡ true) × (usedInside c store ≡ true) × (freeZero c store ≡ true) × (sumsHold c store sums ≡ true)
   unfolding together
-  to h =
+  tests h =
       let k9 = and-true _ (sumsHold c store sums) h in
       let k8 = and-true _ (freeZero c store) (k9 .0) in
       let k7 = and-true _ (usedInside c store) (k8 .0) in
@@ -51,29 +79,24 @@ module _ (c : Campaign) (store sums : List ℤ) where
       let k3 = and-true _ (pastFree c) (k4 .0) in
       let k2 = and-true _ (statesHold c) (k3 .0) in
       let k1 = and-true (tapsHold c) (slotsHold c) (k2 .0) in
-      let range = and-true (leb 1 (c .slots)) (leb (c .slots) 64) (k1 .1) in
-      let room = and-true (leb (c .slots * P (c .order)) (length store)) (leb (P (c .order)) (length sums)) (k4 .1) in
+      (k1 .0, both-true (both-true (both-true (both-true (k1 .1) (k2 .1)) (k3 .1)) (k5 .1)) (k6 .1), k4 .1, k7 .1, k8 .1, k9 .1)
+
+  pub filed-tests : together c store sums ≡ true → filedTests c ≡ true
+  filed-tests h = tests h .1
+
+  to : together c store sums ≡ true → Together c store sums
+  to h =
+      let k = tests h in
+      let room = and-true (leb (c .slots * P (c .order)) (length store)) (leb (P (c .order)) (length sums)) (k .2) in
       record {
-        filed = record {
-          accepted = accepted-exactly (c .order) (c .taps) .0 (eqb-true (tapsAnswer (c .order) (c .taps)) 0 (k1 .0));
-          least = leb-true 1 (c .slots) (range .0);
-          most = leb-true (c .slots) 64 (range .1);
-          states = λ i l. leb-true (state c (i + 1)) withdrawn (every-at 366 _ (k2 .1) i l);
-          past = λ s l p. eqb-true (slot c s) 0 (or-right (ltb s (c .slots)) (free c s) (every-at 64 _ (k3 .1) s l) (le-ltb s (c .slots) p));
-          named = λ s l u.
-              let two = and-true (leb (slot c s) 366) (stands c (slot c s)) (or-right (free c s) _ (every-at (c .slots) _ (k5 .1) s l) (ne-eqb (slot c s) 0 u)) in
-              (leb-true (slot c s) 366 (two .0), eqb-true (state c (slot c s)) standing (two .1));
-          one = λ i l q.
-              eqb-true (many (c .slots) (λ s. eqb (slot c s) (i + 1))) 1
-              (or-right (not (stands c (i + 1))) _ (every-at 366 _ (k6 .1) i l) (ap not (eq-eqb (state c (i + 1)) standing q)));
-        };
+        filed = filed-by c (k .0) (k .1);
         store-long = leb-true (c .slots * P (c .order)) (length store) (room .0);
         sums-long = leb-true (P (c .order)) (length sums) (room .1);
-        used = λ s l u j k. every-at (P (c .order)) _ (or-right (free c s) _ (every-at (c .slots) _ (k7 .1) s l) (ne-eqb (slot c s) 0 u)) j k;
-        zeros = λ s l f j k.
+        used = λ s l u j i. every-at (P (c .order)) _ (or-right (free c s) _ (every-at (c .slots) _ (k .3) s l) (ne-eqb (slot c s) 0 u)) j i;
+        zeros = λ s l f j i.
             eqZ-is (sample c store s j) (pos 0)
-            (every-at (P (c .order)) _ (or-right (not (free c s)) _ (every-at (c .slots) _ (k8 .1) s l) (ap not (eq-eqb (slot c s) 0 f))) j k);
-        total = λ j k. eqZ-is (at sums j) (usedTotal c store j) (every-at (P (c .order)) _ (k9 .1) j k);
+            (every-at (P (c .order)) _ (or-right (not (free c s)) _ (every-at (c .slots) _ (k .4) s l) (ap not (eq-eqb (slot c s) 0 f))) j i);
+        total = λ j i. eqZ-is (at sums j) (usedTotal c store j) (every-at (P (c .order)) _ (k .5) j i);
       }
 
   from : Together c store sums → together c store sums ≡ true

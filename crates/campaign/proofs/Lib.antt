@@ -17,3 +17,4 @@ pub mod Leveling
 pub mod Rows
 pub mod Reading
 pub mod Loops
+pub mod Whole
