@@ -8,6 +8,7 @@ mod recording;
 pub mod respond;
 pub mod rounding;
 mod spread;
+pub mod wide;
 
 pub use prediction::predict;
 pub use recording::one_recording;
