@@ -14,3 +14,4 @@ pub mod AsIf
 pub mod Numbers
 pub mod Bounds
 pub mod Leveling
+mod Scanning
