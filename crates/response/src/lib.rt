@@ -1,5 +1,5 @@
 // One recording turned into a response, a recording predicted from one, and the rounding of a mean.
-mod clear;
+pub mod clear;
 mod gather;
 mod hear;
 mod prediction;
@@ -7,7 +7,7 @@ mod range;
 mod recording;
 pub mod respond;
 pub mod rounding;
-mod spread;
+pub mod spread;
 pub mod wide;
 
 pub use prediction::predict;

@@ -35,7 +35,14 @@ pub fn respond(order: u32, taps: u32, room: &mut [i64], out: &mut [i64], period:
 }
 
 // The same, and the room cleared: of whatever numbers are laid out in it, their response.
-pub fn finish(order: u32, taps: u32, room: &mut [i64], out: &mut [i64], tags: &mut [u16], period: usize)
+pub fn finish(
+    order: u32,
+    taps: u32,
+    room: &mut [i64],
+    out: &mut [i64],
+    tags: &mut [u16],
+    period: usize,
+)
     requires { ⌜ (Accepted order taps) × (period ≡ P order) × (period < length (now room)) × (period ≤ length (now out)) × (2 * period ≤ length (now tags)) ⌝ }
     requires { ⌜ loudness (take (2 ^ order) (now room)) < 2 ^ 62 ⌝ }
     ensures { λ _. ⌜ ((y : ℕ → ℤ) (was : List ℤ) → Laid (P order) (windowOf order taps) y was (now (room .entry))

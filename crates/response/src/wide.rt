@@ -12,7 +12,14 @@ ghost use Rattle.response.specs.Response.{response};
 ghost use Rattle.response.specs.Calls.{clearedWide, clearedTags};
 
 // The response of the first P numbers: into the output, and the room cleared.
-pub fn turn_wide(order: u32, taps: u32, y: &[i64], out: &mut [i64], room: &mut [i64], tags: &mut [u16])
+pub fn turn_wide(
+    order: u32,
+    taps: u32,
+    y: &[i64],
+    out: &mut [i64],
+    room: &mut [i64],
+    tags: &mut [u16],
+)
     requires { ⌜ (Accepted order taps) × ((j : ℕ) → j < P order → natAbs (at (now y) j) ≤ 2 ^ 34) ⌝ }
     requires { ⌜ (P order ≤ length (now y)) × (P order ≤ length (now out)) × (P order < length (now room)) × (2 * P order ≤ length (now tags)) ⌝ }
     ensures { λ _. ⌜ (now (out .exit) ≡ put (table (P order) (response (P order) (wave order taps) (at (now (y .entry))))) (now (out .entry)))

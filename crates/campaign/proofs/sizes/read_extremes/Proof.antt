@@ -1,9 +1,8 @@
 -- `campaign::sizes::read_extremes` meets its contract: each extreme is that of the places from k on, and the tag is that of the delay P - k.
 -- Assumes nothing.
-use mathlib.Core.Path.{_≡_, refl, sym, ap, _∙_}
-use mathlib.Core.Bool.{cond}
+use mathlib.Core.Path.{_≡_, refl, ap, _∙_}
 use mathlib.Core.List.{List}
-use Prim.Native.Nat.{ℕ, suc, _-_, _^_, _≤_, _<_}
+use Prim.Native.Nat.{ℕ, suc, _-_, _^_, _<_}
 use native.Mathlib.Omega.{arith}
 use lib.IntN.{ℤ, pos, natAbs, _-ℤ_}
 use lib.ListN.{length}
@@ -84,12 +83,18 @@ first c =
 reading-requires : tie.Need-reading-requires Inv-loop μ-loop
 reading-requires c κs = readable (c .before) _ (c .tag-step .result) (first c)
 
+-- what was read first is what stands at the last place
+last : (c : tie.After-reading Inv-loop μ-loop) → let b = c .before .before in
+    toZ w64 (ofZ w64 (c .reading .result)) ≡ values b (b .args .period - 1)
+last c =
+    let t = c .before .before .args .t .now in
+    read w64 (c .reading .result) (c .reading .ok) ∙ c .reading .ensures ∙ ap (λ w. at t w -ℤ at t 0) (first (c .before))
+
 loop-holds : tie.Need-loop-holds Inv-loop μ-loop
 loop-holds c =
     let b = c .before .before in
     let e : suc (b .args .period - 1) ≡ b .args .period = omega (arith, sub-k (c .before)) in
-    let z : toZ w64 (ofZ w64 (c .reading .result)) ≡ values b (b .args .period - 1) =
-      read w64 (c .reading .result) (c .reading .ok) ∙ c .reading .ensures ∙ ap (λ w. at (b .args .t .now) w -ℤ at (b .args .t .now) 0) (first (c .before)) in
+    let z = last c in
     (omega (arith, sub-k (c .before)), first (c .before), best-one plain (values b) _ e z, best-one minus (values b) _ e z, best-one sized (values b) _ e z)
 
 tag-step-requires-2 : tie.Need-tag-step-requires-2 Inv-loop μ-loop
