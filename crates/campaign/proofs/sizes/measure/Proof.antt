@@ -1,6 +1,6 @@
 -- `campaign::sizes::measure` meets its contract: what is read of the transformed room is the response. Assumes nothing.
 use borrow.Author.Needs.{needs}
-use mathlib.Core.Path.{_≡_, ap, fun-ext, _∙_}
+use mathlib.Core.Path.{ap, fun-ext, _∙_}
 use Prim.Native.Nat.{_+_, _^_, _<_}
 use native.Mathlib.Omega.{arith}
 use lib.ListN.{length, take}
