@@ -4,14 +4,13 @@ use Prim.Native.Nat.{ℕ, _+_, _-_, _^_, _≤_, _<_}
 use native.Mathlib.Omega.{arith}
 use lib.IntN.{pos}
 use lib.ListN.{length, length-set}
-use Rattle.sums.specs.Lists.{at}
 use mir.Syntax.{w64}
+use Rattle.sums.specs.Lists.{at}
 use Rattle.sums.proofs.Bound.{read}
-use Rattle.sums.proofs.Perm.{Visits}
 use Rattle.register.specs.Register.{P, window as windowOf, Accepted}
 use Rattle.register.proofs.Word.{small}
 use Rattle.register.proofs.Windows.{window-lt, window-next}
-use Rattle.register.proofs.Orbit.{visits}
+use Rattle.response.proofs.FastRoute.{windows-walk}
 use Rattle.response.proofs.Laying.{SoFar, none-laid, more-laid, all-laid, below-next}
 use Rattle.response.proofs.spread.spread_wide.Statement.{statement}
 use Rattle.response.proofs.spread.spread_wide.Tie as tie
@@ -22,9 +21,6 @@ Inv-loop order taps y room₀ period window₀ j₀ room window j =
 
 abbrev μ-loop : tie.MeasureT-loop
 μ-loop order taps y room₀ period window₀ j₀ room window j = period - j
-
-walk : {N taps : ℕ} → Accepted N taps → Visits (P N) (windowOf N taps)
-walk {N} {taps} a = visits N taps (a .shaped .tapped) (a .maximal .first)
 
 full-period-requires : tie.Need-full-period-requires Inv-loop μ-loop
 full-period-requires c κs = c .pre .0 .shaped .most
@@ -77,7 +73,7 @@ loop-again c =
     let j = l .loop .j in (
       omega arith,
       window-next (a .order) (a .taps) j (i .1) (c .step .ensures),
-      more-laid (walk (p .0)) (room p) (λ k. k < j + 1) j (i .2) (omega (arith, p .1)) (i .1) (read w64 _ (c .before .room .given)) (below-next j) (λ h. omega arith),
+      more-laid (windows-walk (a .order) (a .taps) (p .0)) (room p) (λ k. k < j + 1) j (i .2) (omega (arith, p .1)) (i .1) (read w64 _ (c .before .room .given)) (below-next j) (λ h. omega arith),
     )
 
 slice-set-of-room : tie.Need-slice-set-of-room Inv-loop μ-loop
@@ -88,8 +84,9 @@ same-length c = length-set (c .before .loop .room) 0 (pos 0) ∙ c .before .loop
 
 returns : tie.Need-returns Inv-loop μ-loop
 returns c =
-    let p = c .before .before .before .pre in
-    all-laid (walk (p .0)) (room p) (c .before .loop .inv .2) (λ j h. omega (arith, p .1))
+    let b = c .before .before .before in
+    let p = b .pre in
+    all-laid (windows-walk (b .args .order) (b .args .taps) (p .0)) (room p) (c .before .loop .inv .2) (λ j h. omega (arith, p .1))
 
 pub spread-wide-spec : {M : Type 1} → statement M
 spread-wide-spec =
