@@ -18,3 +18,4 @@ pub mod Rows
 pub mod Reading
 pub mod Loops
 pub mod Whole
+mod Scanning

@@ -25,6 +25,7 @@ use Rattle.campaign.specs.declared.Withdrawn.{Withdrawn}
 use Rattle.campaign.specs.declared.Tally.{Tally}
 use Rattle.campaign.specs.declared.Counts.{Counts}
 use Rattle.campaign.specs.declared.Counts.the-variants as counts
+use Rattle.campaign.specs.declared.Extremes.{Extremes}
 use Rattle.campaign.specs.declared.Levels.{Levels}
 use Rattle.campaign.specs.declared.Summary.{Summary}
 use Rattle.campaign.specs.declared.Summary.the-variants as summary
@@ -185,17 +186,25 @@ responseOutcome c store sums r mean room tags =
 abbrev pub largestAt : ℕ → (ℕ → ℤ) → ℕ
 largestAt n f = seek (λ k. every n (λ i. leZ (f i) (f k))) n 0
 
+-- highest r, lowest r, and r at the peak, the first place of the largest |r|
+abbrev pub extremesOf : ℕ → (ℕ → ℤ) → Extremes
+extremesOf n r =
+    record {
+      highest = r (largestAt n r);
+      lowest = r (largestAt n (λ k. pos 0 -ℤ r k));
+      peak = r (largestAt n (λ k. pos (natAbs (r k))));
+    }
+
 -- the exact whole number made a double and divided once
 unfoldable pub level : ℤ → ℕ → Float
 level z d = div binary64 (ofInt binary64 z) (ofInt binary64 (pos d))
 
--- highest r, lowest r, and r at the peak, the first place of the largest |r|
 abbrev pub levelsOf : ℕ → (ℕ → ℤ) → ℕ → Levels
 levelsOf n r d =
     record {
-      highest = level (r (largestAt n r)) d;
-      lowest = level (r (largestAt n (λ k. pos 0 -ℤ r k))) d;
-      peak = level (r (largestAt n (λ k. pos (natAbs (r k))))) d;
+      highest = level (extremesOf n r .highest) d;
+      lowest = level (extremesOf n r .lowest) d;
+      peak = level (extremesOf n r .peak) d;
     }
 
 abbrev pub summaryChecks : Campaign → List ℤ → List ℤ → List ℤ → List ℕ → List (ℕ × Bool)

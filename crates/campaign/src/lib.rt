@@ -3,6 +3,7 @@ pub mod counting;
 mod reread;
 mod stored;
 mod tables;
+pub mod sizes;
 
 // A year of nights.
 pub const DAYS: usize = 366;
@@ -67,7 +68,14 @@ pub enum Counts {
     Refused(u32),
 }
 
-// The highest r, the lowest r and r at the peak, each over (P+1)·n.
+// The highest r, the lowest r and r at the peak.
+pub struct Extremes {
+    pub highest: i64,
+    pub lowest: i64,
+    pub peak: i64,
+}
+
+// Each over (P+1)·n.
 pub struct Levels {
     pub highest: f64,
     pub lowest: f64,

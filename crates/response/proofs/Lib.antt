@@ -8,5 +8,6 @@ pub mod Nearest
 mod Signs
 pub mod Samples
 pub mod FastRoute
-mod Clearing
+pub mod Transformed
+pub mod Clearing
 pub mod Paper

@@ -28,10 +28,11 @@ sample-fits z h = record { sfits = omega (arith, in-mag z h) }
 pub sample-size : (z : ℤ) → sampleOut z ≡ false → natAbs z ≤ 2 ^ 23
 sample-size z h = omega (arith, in-mag z h, natAbs-≤ z)
 
--- a recording of samples is not loud
+-- numbers that are not large are not loud
+pub quiet-wide : (y : ℕ → ℤ) (n : ℕ) → n ≤ 65535 → ((j : ℕ) → j < n → natAbs (y j) ≤ 2 ^ 34) → total n (λ j. natAbs (y j)) < 2 ^ 62
+quiet-wide y n h each = omega (arith, total-le n (2 ^ 34) (λ j. natAbs (y j)) each)
+
+-- nor is a recording of samples
 pub quiet : (y : List ℤ) (n : ℕ) → length y ≡ n → n ≤ 65535 → someOut (length y) (at y) ≡ false → total n (λ j. natAbs (at y j)) < 2 ^ 62
 quiet y n e h none =
-    omega (
-      arith,
-      total-le n (2 ^ 23) (λ j. natAbs (at y j)) (λ j l. sample-size (at y j) (none-of (λ i. sampleOut (at y i)) (length y) none j (omega arith))),
-    )
+    quiet-wide (at y) n h (λ j l. omega (arith, sample-size (at y j) (none-of (λ i. sampleOut (at y i)) (length y) none j (omega arith))))

@@ -7,7 +7,8 @@ mod range;
 mod recording;
 pub mod respond;
 pub mod rounding;
-mod spread;
+pub mod spread;
+pub mod wide;
 
 pub use prediction::predict;
 pub use recording::one_recording;

@@ -1,8 +1,6 @@
 // One recording turned into its response, by the fast route in lent room.
-use crate::clear::clear_tags;
-use crate::clear::clear_wide;
 use crate::range::some_out;
-use crate::respond::respond;
+use crate::respond::finish;
 use crate::spread::spread;
 use register::shift::full_period;
 use register::taps::check_taps;
@@ -38,11 +36,8 @@ fn turn(order: u32, taps: u32, y: &[i32], out: &mut [i64], room: &mut [i64], tag
         × (now (room .exit) ≡ clearedWide (P order + 1) (now (room .entry)))
         × (now (tags .exit) ≡ clearedTags (2 * P order) (now (tags .entry))) ⌝ }
 {
-    let period = y.len();
     spread(order, taps, y, room);
-    respond(order, taps, room, out, period);
-    clear_wide(room, period + 1);
-    clear_tags(tags, 2 * period);
+    finish(order, taps, room, out, tags, y.len());
 }
 
 // r(k) at every place: 0, or the refusal. The room that was used holds zeros after it.

@@ -1,7 +1,11 @@
 // A quotient rounded to nearest, halves away from zero: the magnitudes are divided, and the sign is put back.
 ghost use mathlib.Core.Path.{_≡_};
-ghost use Prim.Native.Nat.{_<_, _^_};
+ghost use mathlib.Core.Bool.{false};
+ghost use Prim.Native.Nat.{ℕ, _≤_, _<_, _^_};
 ghost use lib.IntN.{natAbs};
+ghost use lib.ListN.{length};
+ghost use Rattle.sums.specs.Lists.{at, table, put};
+ghost use Rattle.response.specs.Calls.{sampleOut};
 ghost use Rattle.response.specs.Rounding.{nearest, rounded};
 
 // a / d to the nearest, a half going up.
@@ -25,5 +29,18 @@ pub fn mean(r: i64, d: u64) -> i64
         -n
     } else {
         near(r as u64, d) as i64
+    }
+}
+
+// The mean of each of the first `period`, at its place.
+pub fn write_means(r: &[i64], out: &mut [i32], period: usize, divisor: u64)
+    requires { ⌜ (period ≤ length (now r)) × (period ≤ length (now out)) × (0 < divisor) ⌝ }
+    requires { ⌜ ((k : ℕ) → k < period → (natAbs (at (now r) k) < 2 ^ 63) × (sampleOut (rounded (at (now r) k) divisor) ≡ false)) ⌝ }
+    ensures { λ _. ⌜ now (out .exit) ≡ put (table period (λ k. rounded (at (now (r .entry)) k) divisor)) (now (out .entry)) ⌝ }
+{
+    let mut k = 0;
+    while k < period {
+        out[k] = mean(r[k], divisor) as i32;
+        k += 1;
     }
 }

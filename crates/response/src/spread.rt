@@ -25,6 +25,21 @@ pub fn spread(order: u32, taps: u32, y: &[i32], room: &mut [i64])
     room[0] = 0;
 }
 
+// The same of wide numbers, of which the first P are taken.
+pub fn spread_wide(order: u32, taps: u32, y: &[i64], room: &mut [i64], period: usize)
+    requires { ⌜ (Accepted order taps) × (period ≡ P order) × (period ≤ length (now y)) × (period < length (now room)) ⌝ }
+    ensures { λ _. ⌜ Laid (P order) (windowOf order taps) (at (now (y .entry))) (now (room .entry)) (now (room .exit)) ⌝ }
+{
+    let mut window = full_period(order);
+    let mut j = 0;
+    while j < period {
+        room[window as usize] = y[j];
+        window = step(order, taps, window);
+        j += 1;
+    }
+    room[0] = 0;
+}
+
 // Response value i at the place of the tag of the delay P - i.
 pub fn spread_back(order: u32, taps: u32, h: &[i32], room: &mut [i64])
     requires { ⌜ Accepted order taps ⌝ }

@@ -1,39 +1,17 @@
 -- `response::respond::respond` meets its contract: no number of the transform is larger than the room is loud. Assumes nothing.
 use borrow.Author.Needs.{needs}
-use mathlib.Core.Path.{_≡_, ap, ap₂, _∙_}
-use mathlib.Core.List.{List}
-use Prim.Native.Nat.{ℕ, _-_, _^_, _≤_, _<_}
+use mathlib.Core.Path.{ap, _∙_}
+use Prim.Native.Nat.{_<_}
 use native.Mathlib.Omega.{arith}
-use lib.IntN.{ℤ, pos, natAbs, _-ℤ_}
-use lib.ListN.{length, take}
+use lib.ListN.{length}
 use lib.Pow.{suc-ones}
-use lib.Seq.{length-take-le}
-use Rattle.sums.specs.Lists.{at, table, put}
-use Rattle.sums.proofs.Tables.{at-put, table-ext, length-table, length-put}
-use Rattle.hadamard.specs.Transform.{loudness}
-use Rattle.hadamard.proofs.Loudness.{transformed-at-most}
-use Rattle.register.specs.Register.{P, tag, Accepted}
+use Rattle.sums.specs.Lists.{put}
+use Rattle.sums.proofs.Tables.{table-ext}
+use Rattle.register.specs.Register.{P}
 use Rattle.register.proofs.Word.{small}
-use Rattle.register.proofs.Windows.{tag-lt}
-use Rattle.response.specs.Route.{spectrum, read}
+use Rattle.response.proofs.Transformed.{after-long, bounded, reads-at}
 use Rattle.response.proofs.respond.respond.Statement.{statement}
 use Rattle.response.proofs.respond.respond.Tie as tie
-
--- the room as the transform leaves it
-abbrev after : ℕ → List ℤ → List ℤ
-after N v = put (table (2 ^ N) (spectrum N v)) v
-
-bounded : (N : ℕ) (v : List ℤ) → P N < length v → loudness (take (2 ^ N) v) < 2 ^ 62 → (w : ℕ) → w ≤ P N → natAbs (at (after N v) w) < 2 ^ 62
-bounded N v long quiet w h =
-    let l : w < 2 ^ N = omega (arith, suc-ones N) in
-    rw (at-put (2 ^ N) (spectrum N v) v w (pos 0) l)
-    (omega (arith, transformed-at-most N (take (2 ^ N) v) w (length-take-le (2 ^ N) v (omega (arith, suc-ones N)))))
-
-reads-at : (N taps : ℕ) (v : List ℤ) → Accepted N taps → (k : ℕ)
-    → at (after N v) (tag N taps (P N - k)) -ℤ at (after N v) 0 ≡ read N taps v k
-reads-at N taps v a k =
-    ap₂ _-ℤ_ (at-put (2 ^ N) (spectrum N v) v (tag N taps (P N - k)) (pos 0) (tag-lt N taps (a .shaped .tapped) (P N - k)))
-    (at-put (2 ^ N) (spectrum N v) v 0 (pos 0) (omega (arith, suc-ones N)))
 
 add-transform-room : tie.Need-add-transform-room
 add-transform-room c = omega (arith, small (c .before .pre .0 .0 .shaped .most), c .before .pre .0 .1)
@@ -53,7 +31,7 @@ gather-requires c κs =
     let long : P N < length v = omega (arith, p .0 .1, p .0 .2) in (
       (p .0 .0, p .0 .1),
       (
-        (rw e (rw (length-put (table (2 ^ N) (spectrum N v)) v (omega (arith, length-table (2 ^ N) (spectrum N v), suc-ones N))) (p .0 .2)), p .0 .3),
+        (rw e (rw (after-long N v long) (p .0 .2)), p .0 .3),
         λ w h. rw e (bounded N v long (p .1) w (omega (arith, p .0 .1))),
       ),
     )

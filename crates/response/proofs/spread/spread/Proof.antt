@@ -1,16 +1,15 @@
 -- `response::spread::spread` meets its contract: after j turns the first j samples are laid out. Assumes nothing.
 use mathlib.Core.Path.{_≡_, _∙_}
-use Prim.Native.Nat.{ℕ, _+_, _-_, _^_, _≤_, _<_}
+use Prim.Native.Nat.{_+_, _-_, _^_, _≤_, _<_}
 use native.Mathlib.Omega.{arith}
 use lib.IntN.{pos}
 use lib.ListN.{length, length-set}
 use Rattle.sums.specs.Lists.{at}
 use Rattle.sums.proofs.Bound.{wide, wide-fits}
-use Rattle.sums.proofs.Perm.{Visits}
-use Rattle.register.specs.Register.{P, window as windowOf, Accepted}
+use Rattle.register.specs.Register.{P, window as windowOf}
 use Rattle.register.proofs.Word.{small}
 use Rattle.register.proofs.Windows.{window-lt, window-next}
-use Rattle.register.proofs.Orbit.{visits}
+use Rattle.response.proofs.FastRoute.{windows-walk}
 use Rattle.response.proofs.Laying.{SoFar, none-laid, more-laid, all-laid, below-next}
 use Rattle.response.proofs.spread.spread.Statement.{statement}
 use Rattle.response.proofs.spread.spread.Tie as tie
@@ -21,9 +20,6 @@ Inv-loop order taps y room₀ window₀ j₀ room window j =
 
 abbrev μ-loop : tie.MeasureT-loop
 μ-loop order taps y room₀ window₀ j₀ room window j = length y - j
-
-walk : {N taps : ℕ} → Accepted N taps → Visits (P N) (windowOf N taps)
-walk {N} {taps} a = visits N taps (a .shaped .tapped) (a .maximal .first)
 
 full-period-requires : tie.Need-full-period-requires Inv-loop μ-loop
 full-period-requires c κs = c .pre .0 .shaped .most
@@ -75,7 +71,7 @@ loop-again c =
     let j = l .loop .j in (
       omega arith,
       window-next (a .order) (a .taps) j (i .1) (c .step .ensures),
-      more-laid (walk (p .0)) (p .1 .1) (λ k. k < j + 1) j (i .2) (omega (arith, p .1 .0)) (i .1) (wide _ (c .before .room .given)) (below-next j) (λ h. omega arith),
+      more-laid (windows-walk (a .order) (a .taps) (p .0)) (p .1 .1) (λ k. k < j + 1) j (i .2) (omega (arith, p .1 .0)) (i .1) (wide _ (c .before .room .given)) (below-next j) (λ h. omega arith),
     )
 
 slice-set-of-room : tie.Need-slice-set-of-room Inv-loop μ-loop
@@ -86,8 +82,9 @@ same-length c = length-set (c .before .loop .room) 0 (pos 0) ∙ c .before .loop
 
 returns : tie.Need-returns Inv-loop μ-loop
 returns c =
-    let p = c .before .before .before .pre in
-    all-laid (walk (p .0)) (p .1 .1) (c .before .loop .inv .2) (λ j h. omega (arith, p .1 .0))
+    let b = c .before .before .before in
+    let p = b .pre in
+    all-laid (windows-walk (b .args .order) (b .args .taps) (p .0)) (p .1 .1) (c .before .loop .inv .2) (λ j h. omega (arith, p .1 .0))
 
 pub spread-spec : {M : Type 1} → statement M
 spread-spec =
