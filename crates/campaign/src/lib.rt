@@ -1,9 +1,9 @@
 // A campaign of days: the record, and what each call answers.
 pub mod counting;
 mod reread;
+pub mod sizes;
 mod stored;
 mod tables;
-pub mod sizes;
 
 // A year of nights.
 pub const DAYS: usize = 366;

@@ -30,10 +30,10 @@ returns-2 : tie.Need-returns-2
 returns-2 c =
     let a = c .before .before .before .before .args in
     does-not (a .c) (a .store .now) (a .sums .now) (λ t.
-        true≢false
-        (sym (filed-tests (a .c) (a .store .now) (a .sums .now) (holds-together (a .c) (a .store .now) (a .sums .now) .1 t))
-        ∙ sym (c .before .filed-holds .ensures)
-        ∙ not-true _ (c .if2 .taken)))
+    true≢false
+    (sym (filed-tests (a .c) (a .store .now) (a .sums .now) (holds-together (a .c) (a .store .now) (a .sums .now) .1 t))
+    ∙ sym (c .before .filed-holds .ensures)
+    ∙ not-true _ (c .if2 .taken)))
 
 cast-slots : tie.Need-cast-slots
 cast-slots c = search needs
@@ -83,7 +83,7 @@ returns-5 c =
     let two = rw e at (c .store-holds .ensures) in
     both-ways _ _
     (λ t. holds-together (a .c) (a .store .now) (a .sums .now) .1
-        (whole (a .c) (a .store .now) (a .sums .now) (filed (n .before .before)) (rw e at (c .before .before .before .before .if3 .left)) (rw e at (c .before .before .before .if4 .left)) (two .0 t)))
+    (whole (a .c) (a .store .now) (a .sums .now) (filed (n .before .before)) (rw e at (c .before .before .before .before .if3 .left)) (rw e at (c .before .before .before .if4 .left)) (two .0 t)))
     (λ h. two .1 (all-places (a .c) (a .store .now) (a .sums .now) (holds-together (a .c) (a .store .now) (a .sums .now) .0 h)))
 
 pub holds-spec : {M : Type 1} → statement M
