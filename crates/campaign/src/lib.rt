@@ -1,4 +1,5 @@
 // A campaign of days: the record, and what each call answers.
+pub mod answering;
 pub mod counting;
 mod reread;
 pub mod sizes;
