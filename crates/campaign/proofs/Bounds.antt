@@ -21,7 +21,7 @@ use Rattle.response.specs.Calls.{sampleOut}
 use Rattle.response.proofs.Nearest.{near-nearest}
 use Rattle.response.proofs.Register.{response-bound}
 use Rattle.campaign.specs.Record.{unseen, standing, overloaded, dead, withdrawn, state, daysIn, slot, free, sample}
-use Rattle.campaign.specs.Calls.{worked, divisor, meanAt}
+use Rattle.campaign.specs.Calls.{worked, divisor, meanAt, extremesOf}
 use Rattle.campaign.specs.declared.Campaign.{Campaign}
 use Rattle.campaign.proofs.Tests.{inside-size}
 use Rattle.campaign.proofs.Holding.{Filed, Together}
@@ -113,8 +113,14 @@ module _ (c : Campaign) (store sums : List ℤ) (h : Together c store sums) wher
         mul-assoc (P (c .order) + 1) (daysIn c standing) 8388607,
       )
 
+  pub sum-small : (j : ℕ) → j < P (c .order) → natAbs (at sums j) ≤ 2 ^ 34
+  sum-small j l = omega (arith, sum-bound j l, standing-most c (h .filed), h .filed .most)
+
   pub worked-small : (k : ℕ) → natAbs (worked c sums k) < 2 ^ 53
   worked-small k = omega (arith, worked-bound k, divisor-most c (h .filed))
+
+  pub extremes-small : let e = extremesOf (P (c .order)) (worked c sums) in (natAbs (e .highest) < 2 ^ 53) × (natAbs (e .lowest) < 2 ^ 53) × (natAbs (e .peak) < 2 ^ 53)
+  extremes-small = (worked-small _, worked-small _, worked-small _)
 
   pub mean-fits : (daysIn c standing ≡ 0 → ⊥) → (k : ℕ) → sampleOut (meanAt c sums k) ≡ false
   mean-fits n k =

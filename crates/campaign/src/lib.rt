@@ -4,6 +4,7 @@ pub mod counting;
 mod reread;
 pub mod sizes;
 mod stored;
+pub mod summing;
 mod tables;
 
 // A year of nights.

@@ -21,8 +21,7 @@ use Rattle.campaign.specs.Record.{standing, daysIn, together}
 use Rattle.campaign.specs.Calls.{workShort, worked, divisor, meanAt, responseOutcome}
 use Rattle.campaign.specs.declared.Campaign.{Campaign}
 use Rattle.campaign.proofs.Holding.{Together, holds-together}
-use Rattle.campaign.proofs.Tallying.{standing-most}
-use Rattle.campaign.proofs.Bounds.{divisor-some, divisor-small, sum-bound, worked-small, mean-fits}
+use Rattle.campaign.proofs.Bounds.{divisor-some, divisor-small, sum-small, worked-small, mean-fits}
 use Rattle.campaign.proofs.Loops.{days-in-is}
 use Rattle.campaign.proofs.answering.response.Statement.{statement}
 use Rattle.campaign.proofs.answering.response.Tie as tie
@@ -34,12 +33,12 @@ module _ (c : Campaign) (store sums r mean room : List ℤ) (tags : List ℕ) wh
   -- the answer, by what the three tests say
   says : {h s n : Bool} → h ≡ together c store sums → s ≡ short → n ≡ eqb (daysIn c standing) 0
       → outcome ((15, not h) ∷ (6, s) ∷ (14, n) ∷ []) (λ m. (m, r, mean, room, tags)) (
-          0,
-          put (table (P (c .order)) (worked c sums)) r,
-          put (table (P (c .order)) (meanAt c sums)) mean,
-          clearedWide (P (c .order) + 1) room,
-          clearedTags (2 * P (c .order)) tags,
-        ) ≡ responseOutcome c store sums r mean room tags
+        0,
+        put (table (P (c .order)) (worked c sums)) r,
+        put (table (P (c .order)) (meanAt c sums)) mean,
+        clearedWide (P (c .order) + 1) room,
+        clearedTags (2 * P (c .order)) tags,
+      ) ≡ responseOutcome c store sums r mean room tags
   unfolding responseOutcome
   says p q e = rw (p, q, e) refl
 
@@ -117,8 +116,7 @@ rooms c =
     let n = P (a .c .order) in
     let o = or-false (ltb (length (a .r .now)) n || ltb (length (a .mean .now)) n) (workShort (a .c .order) (a .room .now) (a .tags .now)) (sym (test-is (c .before)) ∙ c .if2 .left) in
     let p = or-false (ltb (length (a .r .now)) n) (ltb (length (a .mean .now)) n) (o .0) in
-    let q = or-false (ltb (length (a .room .now)) (n + 1)) (ltb (length (a .tags .now)) (2 * n)) (o .1) in
-    (
+    let q = or-false (ltb (length (a .room .now)) (n + 1)) (ltb (length (a .tags .now)) (2 * n)) (o .1) in (
       ltb-false (length (a .r .now)) n (p .0),
       ltb-false (length (a .mean .now)) n (p .1),
       omega (arith, ltb-false (length (a .room .now)) (n + 1) (q .0)),
@@ -129,9 +127,8 @@ turn-wide-requires : tie.Need-turn-wide-requires
 turn-wide-requires c κs =
     let a = c .before .before .before .before .before .before .before .before .before .before .before .before .before .before .before .before .before .args in
     let w = whole (c .before .before .before .before .before .before .before .before .before .before .before .before .before .before) in
-    let r = rooms (c .before .before .before .before .before .before) in
-    (
-      (w .filed .accepted, λ j l. omega (arith, sum-bound (a .c) (a .store .now) (a .sums .now) w j l, standing-most (a .c) (w .filed), w .filed .most)),
+    let r = rooms (c .before .before .before .before .before .before) in (
+      (w .filed .accepted, sum-small (a .c) (a .store .now) (a .sums .now) w),
       (w .sums-long, r .0, r .2, r .3),
     )
 
@@ -164,12 +161,10 @@ write-means-requires c κs =
     let r = rooms (t .before .before .before .before .before .before .before) in
     let p = t .before .before .before .before .before .before .before .before .before .before .before .before .before .full-period .ensures in
     let d = divisor-is t in
-    let some : daysIn (a .c) standing ≡ 0 → ⊥ = λ e. t .before .before .before .before .if3 .left (days-are (t .before .before .before .before .before) ∙ e) in
-    (
+    let some : daysIn (a .c) standing ≡ 0 → ⊥ = λ e. t .before .before .before .before .if3 .left (days-are (t .before .before .before .before .before) ∙ e) in (
       (omega (arith, p, t .turn-wide .kept .1 .1 .1 .0, r .0), omega (arith, p, r .1), omega (arith, d, divisor-some (a .c) some)),
       λ k l.
-          let e = turned t k (omega (arith, p)) in
-          (
+          let e = turned t k (omega (arith, p)) in (
             omega (arith, ap natAbs e, worked-small (a .c) (a .store .now) (a .sums .now) w k),
             ap₂ (λ z n. sampleOut (rounded z n)) e d ∙ mean-fits (a .c) (a .store .now) (a .sums .now) w some k,
           ),
@@ -194,8 +189,8 @@ mean-is c =
     let a = t .before .before .before .before .before .before .before .before .before .before .before .before .before .before .before .before .before .before .args in
     c .write-means .ensures
     ∙ ap (λ v. put v (a .mean .now))
-      (ap (λ n. table n (λ k. rounded (at (t .turn-wide .last .1 .1 .1 .0) k) ((t .before .before .before .before .before .before .before .before .before .before .before .before .before .full-period .result + 1) * t .before .before .before .before .before .days-in .result))) (t .before .before .before .before .before .before .before .before .before .before .before .before .before .full-period .ensures)
-      ∙ table-ext (P (a .c .order)) (λ k l. ap₂ rounded (turned t k l) (divisor-is t)))
+    (ap (λ n. table n (λ k. rounded (at (t .turn-wide .last .1 .1 .1 .0) k) ((t .before .before .before .before .before .before .before .before .before .before .before .before .before .full-period .result + 1) * t .before .before .before .before .before .days-in .result))) (t .before .before .before .before .before .before .before .before .before .before .before .before .before .full-period .ensures)
+    ∙ table-ext (P (a .c .order)) (λ k l. ap₂ rounded (turned t k l) (divisor-is t)))
 
 all-same : {u u' v v' w w' : List ℤ} {x x' : List ℕ} → u ≡ u' → v ≡ v' → w ≡ w' → x ≡ x'
     → _≡_ {A = ℕ × List ℤ × List ℤ × List ℤ × List ℕ} (0, u, v, w, x) (0, u', v', w', x')
@@ -207,7 +202,7 @@ returns-4 c =
     let e = t .turn-wide .ensures in
     all-same (e .0) (mean-is (c .before)) (e .1) (e .2)
     ∙ says _ _ _ _ _ _ _ (sym (not-false _ (t .before .before .before .before .before .before .before .before .before .before .before .before .before .before .before .if1 .left)) ∙ t .before .before .before .before .before .before .before .before .before .before .before .before .before .before .before .before .holds .ensures) (sym (t .before .before .before .before .before .before .before .if2 .left) ∙ test-is (t .before .before .before .before .before .before .before .before))
-      (sym (ne-eqb _ 0 (λ z. t .before .before .before .before .if3 .left (days-are (t .before .before .before .before .before) ∙ z))))
+    (sym (ne-eqb _ 0 (λ z. t .before .before .before .before .if3 .left (days-are (t .before .before .before .before .before) ∙ z))))
 
 pub response-spec : {M : Type 1} → statement M
 response-spec =
