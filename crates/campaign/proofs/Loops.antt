@@ -1,16 +1,15 @@
 -- What a loop over the days or the slots comes to: a test that held at each place so far, or failed at one, the places counted at which it
 -- held, and the first of them sought; and the record's tests as its tables have them. Assumes nothing.
-use mathlib.Core.Path.{_≡_, refl, sym, ap, ap₂, _∙_}
-use mathlib.Core.Bool.{Bool, true, false, cond, not, _&&_, _||_}
+use mathlib.Core.Path.{_≡_, sym, ap, _∙_}
+use mathlib.Core.Bool.{Bool, true, false, cond, not, _||_}
 use Prim.Native.Nat.{ℕ, zero, suc, _+_, _-_, _≤_, _<_}
-use native.Mathlib.Decide.{ℕ-discrete}
 use native.Mathlib.Numerals.{add-one}
 use native.Mathlib.Omega.{arith}
 use lib.Dec.{eqb, leb}
 use lib.ListN.{getD}
 use Rattle.sums.specs.Sum.{total}
 use Rattle.sums.specs.Lists.{every, many, seek}
-use Rattle.sums.proofs.Everywhere.{both-true, many-ext}
+use Rattle.sums.proofs.Everywhere.{many-ext}
 use Rattle.sums.proofs.Seek.{seek-here, seek-past}
 use Rattle.campaign.specs.Record.{daysIn, statesHold, oneSlot}
 use Rattle.campaign.specs.declared.Campaign.{Campaign}

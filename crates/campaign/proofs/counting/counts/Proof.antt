@@ -1,6 +1,6 @@
 -- `campaign::counting::counts` meets its contract. Assumes nothing.
 use mathlib.Core.Path.{_≡_, sym, ap, _∙_}
-use mathlib.Core.Bool.{Bool, true, false, not}
+use mathlib.Core.Bool.{Bool, not}
 use mathlib.Core.List.{List, [], _∷_}
 use borrow.Author.Needs.{needs}
 use borrow.Author.Tests.{not-true, not-false}
@@ -9,7 +9,6 @@ use Rattle.sums.specs.Refusals.{outcome}
 use Rattle.campaign.specs.Record.{together}
 use Rattle.campaign.specs.Calls.{tally, countsOutcome}
 use Rattle.campaign.specs.declared.Campaign.{Campaign}
-use Rattle.campaign.specs.declared.Counts.{Counts}
 use Rattle.campaign.specs.declared.Counts.the-variants as counts
 use Rattle.campaign.proofs.counting.counts.Statement.{statement}
 use Rattle.campaign.proofs.counting.counts.Tie as tie

@@ -1,16 +1,14 @@
 -- `campaign::reread::holds` meets its contract: a test that fails refutes holding together, and all of them make it. Assumes nothing.
-use mathlib.Core.Path.{_≡_, sym, ap, subst, _∙_}
-use mathlib.Core.Bool.{true, true≢false}
+use mathlib.Core.Path.{sym, _∙_}
+use mathlib.Core.Bool.{true≢false}
 use borrow.Author.Needs.{needs}
-use borrow.Author.Tests.{not-true, not-false, eq-eqb, eqb-true}
-use Prim.Native.Nat.{_*_, _≤_, _<_}
+use borrow.Author.Tests.{not-true, not-false, eq-eqb}
+use Prim.Native.Nat.{_≤_}
 use native.Mathlib.Nat.{mul-le-mul}
 use native.Mathlib.Omega.{arith}
-use lib.ListN.{length}
-use Rattle.register.specs.Register.{P, Accepted}
 use Rattle.register.proofs.Word.{small}
 use Rattle.register.proofs.Judged.{accepted-exactly}
-use Rattle.campaign.proofs.Holding.{Filed, Together, filedTests, filed-by, filed-tests, holds-together}
+use Rattle.campaign.proofs.Holding.{Filed, filed-by, filed-tests, holds-together}
 use Rattle.campaign.proofs.Whole.{whole, all-places, does-not, both-ways}
 use Rattle.campaign.proofs.reread.holds.Statement.{statement}
 use Rattle.campaign.proofs.reread.holds.Tie as tie

@@ -1,18 +1,17 @@
 -- `campaign::stored::block_holds` meets its contract: slot by slot, `ReadSo`. Assumes nothing.
 use mathlib.Core.Path.{_≡_, refl, sym, ap, _∙_}
 use borrow.Author.Tests.{not-true, not-false}
-use mathlib.Core.Bool.{true, false, true≢false}
-use Prim.Native.Nat.{ℕ, suc, _+_, _-_, _*_, _^_, _≤_, _<_}
+use mathlib.Core.Bool.{true≢false}
+use Prim.Native.Nat.{ℕ, _+_, _-_, _*_, _≤_, _<_}
 use native.Mathlib.Nat.{mul-le-mul-right, suc-mul}
 use native.Mathlib.Omega.{arith}
-use lib.IntN.{ℤ, pos, natAbs}
+use lib.IntN.{ℤ, pos}
 use mathlib.Core.List.{List}
 use lib.ListN.{length, getD, take, drop, length-drop}
 use lib.Seq.{length-take-le, getD-take, getD-drop}
 use Rattle.sums.specs.Lists.{at, every}
 use Rattle.sums.proofs.Tables.{at-put}
 use Rattle.campaign.specs.Record.{eqZ}
-use Rattle.campaign.specs.Blocks.{Block}
 use Rattle.campaign.proofs.Rows.{every-ext}
 use Rattle.campaign.proofs.Reading.{ReadSo, tested, none-read, row-at, more-read, row-refutes, sums-hold, sums-pass, found-small}
 use Rattle.campaign.proofs.stored.block_holds.Statement.{statement}

@@ -1,11 +1,8 @@
 -- `campaign::stored::take_row` meets its contract. Assumes nothing.
 use borrow.Author.Needs.{needs}
 use borrow.Author.Tests.{eq-eqb, ne-eqb}
-use mathlib.Core.Path.{_≡_, sym, ap, _∙_}
-use mathlib.Core.Bool.{cond}
-use lib.Dec.{eqb}
-use lib.IntN.{pos, _+ℤ_, +ℤ-idr}
-use Rattle.sums.specs.Lists.{at}
+use mathlib.Core.Path.{sym}
+use lib.IntN.{+ℤ-idr}
 use Rattle.campaign.proofs.stored.take_row.Statement.{statement}
 use Rattle.campaign.proofs.stored.take_row.Tie as tie
 
