@@ -2,7 +2,8 @@
 pub mod answering;
 pub mod counting;
 mod reread;
-pub mod sizes;
+mod rooms;
+mod sizes;
 mod stored;
 pub mod summing;
 mod tables;

@@ -1,8 +1,8 @@
--- `campaign::answering::answer_short` meets its contract. Assumes nothing.
+-- `campaign::rooms::answer_short` meets its contract. Assumes nothing.
 use borrow.Author.Needs.{needs}
 use borrow.Author.Tests.{lt-ltb, le-ltb}
-use Rattle.campaign.proofs.answering.answer_short.Statement.{statement}
-use Rattle.campaign.proofs.answering.answer_short.Tie as tie
+use Rattle.campaign.proofs.rooms.answer_short.Statement.{statement}
+use Rattle.campaign.proofs.rooms.answer_short.Tie as tie
 
 returns : tie.Need-returns
 returns c = simp (lt-ltb _ _ (c .if1 .taken))
