@@ -26,7 +26,7 @@ use Rattle.campaign.specs.declared.Verdict.the-variants as verdict
 use Rattle.campaign.proofs.Holding.{holds-together}
 use Rattle.campaign.proofs.Tallying.{standing-most}
 use Rattle.campaign.proofs.Refiling.{Day, day}
-use Rattle.campaign.proofs.Starting.{begun, started}
+use Rattle.campaign.proofs.Begun.{begun, started}
 use Rattle.campaign.proofs.History.{SaysRun, says}
 use Rattle.campaign.proofs.Steps.{outcome-cases, Entering, entering}
 use Rattle.campaign.proofs.Steps as steps

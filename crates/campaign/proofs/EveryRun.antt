@@ -29,7 +29,7 @@ use Rattle.campaign.proofs.Bounds.{counts-total}
 use Rattle.campaign.proofs.Holding.{holds-together}
 use Rattle.campaign.proofs.Tallying.{slots-as-days}
 use Rattle.campaign.proofs.Refiling.{Day, day, many-some}
-use Rattle.campaign.proofs.Starting.{begun, started}
+use Rattle.campaign.proofs.Begun.{begun, started}
 use Rattle.campaign.proofs.History.{SaysRun, says}
 use Rattle.campaign.proofs.Answers.{never-fifteen, RoomFor, answers}
 

@@ -21,7 +21,7 @@ use Rattle.campaign.proofs.Holding.{Together, holds-together}
 use Rattle.campaign.proofs.Tallying.{no-slot}
 use Rattle.campaign.proofs.Refiling.{Sized, Day, sized-filed, sized-marked, state-same, state-other, slot-same, slot-other}
 use Rattle.campaign.proofs.Memory.{sample-same, sample-other, together-kept, together-withdrawn, together-marked}
-use Rattle.campaign.proofs.Starting.{begun, Begins, begun-sized, begun-state, begun-slot, begun-together}
+use Rattle.campaign.proofs.Begun.{begun, Begins, begun-sized, begun-state, begun-slot, begun-together}
 use Rattle.campaign.proofs.Steps.{Entering, entering, Withdrawing, withdrawing}
 use Rattle.campaign.proofs.Steps as steps
 

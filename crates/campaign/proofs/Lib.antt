@@ -5,7 +5,7 @@ pub mod Tallying
 pub mod Refiling
 pub mod Memory
 pub mod Steps
-pub mod Starting
+pub mod Begun
 pub mod History
 pub mod Answers
 pub mod EveryRun
@@ -15,6 +15,7 @@ pub mod Numbers
 pub mod Bounds
 pub mod Leveling
 pub mod Rows
+pub mod Parts
 pub mod Reading
 pub mod Loops
 pub mod Whole

@@ -1,9 +1,11 @@
 // A campaign of days: the record, and what each call answers.
 pub mod answering;
 pub mod counting;
+mod filing;
 mod reread;
 mod rooms;
 mod sizes;
+mod slots;
 mod stored;
 pub mod summing;
 mod tables;

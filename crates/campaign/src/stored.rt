@@ -18,7 +18,7 @@ fn between_rails(x: i32) -> bool
 }
 
 // A used slot's samples at some places, added to their sums: whether all lie strictly between the rails.
-fn add_row(row: &[i32], sums: &mut [i64]) -> bool
+pub fn add_row(row: &[i32], sums: &mut [i64]) -> bool
     requires { ⌜ (length (now row) ≤ length (now sums)) × ((j : ℕ) → j < length (now row) → natAbs (at (now sums) j) ≤ 2 ^ 40) ⌝ }
     ensures { λ r. ⌜ (r ≡ every (length (now (row .entry))) (λ j. inside (at (now (row .entry)) j)))
         × ((j : ℕ) → at (now (sums .exit)) j ≡ at (now (sums .entry)) j +ℤ at (now (row .entry)) j) ⌝ }
