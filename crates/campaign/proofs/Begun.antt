@@ -10,7 +10,8 @@ use lib.Dec.{ltb}
 use lib.IntN.{ℤ, pos}
 use lib.ListN.{length, getD, replicate, length-replicate}
 use Rattle.sums.specs.Lists.{table}
-use Rattle.sums.proofs.First.{accepts, or-false}
+use Rattle.sums.specs.Refusals.{first}
+use Rattle.sums.proofs.First.{passes, accepts, or-false}
 use Rattle.sums.proofs.Sum.{sum-ext, sum-zero}
 use Rattle.sums.proofs.Tables.{at-put, length-put, length-table}
 use Rattle.register.specs.Register.{P, Accepted}
@@ -37,27 +38,30 @@ pub record Begins (N taps C : ℕ) (store sums : List ℤ) : Type 0 where
   pub store-long : C * P N ≤ length store
   pub sums-long : P N ≤ length sums
 
+-- a start that no check refuses
+pub begins : (N taps C : ℕ) (store sums : List ℤ) → first (startChecks N taps C store sums) ≡ 0 → Begins N taps C store sums
+unfolding tapsAnswer
+begins N taps C store sums z =
+    let p = passes (startChecks N taps C store sums) tt z in
+    let nine = or-false (ltb C 1) (ltb 64 C) (p .1 .1 .1 .1 .0) in
+    let six = or-false (ltb (length store) (C * P N)) (ltb (length sums) (P N)) (p .1 .1 .1 .1 .1 .0) in
+    record {
+      accepted = accepted-exactly N taps .0 (accepts (tapsChecks N taps) (p .0, (p .1 .0, (p .1 .1 .0, (p .1 .1 .1 .0, tt)))));
+      least = ltb-false C 1 (nine .0);
+      most = ltb-false 64 C (nine .1);
+      store-long = ltb-false (length store) (C * P N) (six .0);
+      sums-long = ltb-false (length sums) (P N) (six .1);
+    }
+
 -- a start that answers 0
 pub started : (c : Campaign) (N taps C : ℕ) (store sums : List ℤ) → startOutcome c N taps C store sums .0 .answer ≡ 0
     → Begins N taps C store sums × (startOutcome c N taps C store sums ≡ (record { answer = 0; campaign = fresh N taps C }, clearedWide (C * P N) store, clearedWide (P N) sums))
-unfolding startOutcome tapsAnswer
+unfolding startOutcome
 started c N taps C store sums =
     outcome-cases (startChecks N taps C store sums) tt (λ n. (record { answer = n; campaign = c }, store, sums))
     (record { answer = 0; campaign = fresh N taps C }, clearedWide (C * P N) store, clearedWide (P N) sums)
     (λ o. o .0 .answer ≡ 0 → Begins N taps C store sums × (o ≡ (record { answer = 0; campaign = fresh N taps C }, clearedWide (C * P N) store, clearedWide (P N) sums)))
-    (λ n h _ z. absurd (h z))
-    (λ p _.
-    let nine = or-false (ltb C 1) (ltb 64 C) (p .1 .1 .1 .1 .0) in
-    let six = or-false (ltb (length store) (C * P N)) (ltb (length sums) (P N)) (p .1 .1 .1 .1 .1 .0) in (
-      record {
-        accepted = accepted-exactly N taps .0 (accepts (tapsChecks N taps) (p .0, (p .1 .0, (p .1 .1 .0, (p .1 .1 .1 .0, tt)))));
-        least = ltb-false C 1 (nine .0);
-        most = ltb-false 64 C (nine .1);
-        store-long = ltb-false (length store) (C * P N) (six .0);
-        sums-long = ltb-false (length sums) (P N) (six .1);
-      },
-      refl,
-    ))
+    (λ n h _ z. absurd (h z)) (λ p _. (begins N taps C store sums (accepts (startChecks N taps C store sums) p), refl))
 
 -- ---- it holds together
 

@@ -16,6 +16,7 @@ pub mod Bounds
 pub mod Leveling
 pub mod Rows
 pub mod Parts
+pub mod Passing
 pub mod Reading
 pub mod Loops
 pub mod Whole

@@ -82,7 +82,7 @@ module _ (c : Campaign) (f : Filed c) where
 
 -- ---- a recording with no sample at a rail
 
-in-day : (d : ℕ) → dayOut d ≡ false → Day d
+pub in-day : (d : ℕ) → dayOut d ≡ false → Day d
 in-day d h = let two = or-false (ltb d 1) (ltb 366 d) h in record { first = ltb-false d 1 (two .0); last = ltb-false 366 d (two .1) }
 
 between : (z : ℤ) → sampleOut z ≡ false → rail z ≡ false → inside z ≡ true

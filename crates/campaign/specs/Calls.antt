@@ -14,10 +14,12 @@ use Rattle.register.specs.Register.{P, wave}
 use Rattle.register.specs.Calls.{tapsChecks}
 use Rattle.response.specs.Response.{response}
 use Rattle.response.specs.Rounding.{rounded}
-use Rattle.response.specs.Calls.{lengthOff, someOut, clearedWide, clearedTags}
+use Rattle.response.specs.Calls.{lengthOff, someOut, workShort, clearedWide, clearedTags}
 use Rattle.campaign.specs.Record.{standing, overloaded, dead, withdrawn, unseen, stands, daysIn, slot, free, base, sample, eqZ, together}
 use Rattle.campaign.specs.declared.Campaign.{Campaign}
 use Rattle.campaign.specs.declared.Started.{Started}
+use Rattle.campaign.specs.declared.Rail.{Rail}
+use Rattle.campaign.specs.declared.Rail.the-variants as scan
 use Rattle.campaign.specs.declared.Verdict.{Verdict}
 use Rattle.campaign.specs.declared.Verdict.the-variants as verdict
 use Rattle.campaign.specs.declared.Entered.{Entered}
@@ -75,6 +77,9 @@ rail z = eqZ z (negsuc 8388607) || eqZ z (pos 8388607)
 abbrev pub railPlace : List ℤ → ℕ
 railPlace y = seek (λ j. rail (at y j)) (length y) 0
 
+abbrev pub railOf : List ℤ → Rail
+railOf y = cond (ltb (railPlace y) (length y)) (scan.First (railPlace y)) scan.Clear
+
 -- all samples equal
 abbrev pub still : List ℤ → Bool
 still y = every (length y) (λ j. eqZ (at y j) (at y 0))
@@ -102,12 +107,16 @@ keptOutcome c store sums d y = (
   put (table (P (c .order)) (λ j. at sums j +ℤ at y j)) sums,
 )
 
--- the verdict, and 12 after it: C days stand
+-- 12, after the verdict: C days stand
+abbrev pub stayedOutcome : Campaign → List ℤ → List ℤ → ℕ → List ℤ → Entered × List ℤ × List ℤ
+stayedOutcome c store sums d y =
+    outcome ((12, eqb (daysIn c standing) (c .slots)) ∷ []) (λ n. (entered c d (verdict.Refused n), store, sums)) (keptOutcome c store sums d y)
+
+-- the verdict
 abbrev pub judgedOutcome : Campaign → List ℤ → List ℤ → ℕ → List ℤ → Entered × List ℤ × List ℤ
 judgedOutcome c store sums d y =
     cond (ltb (railPlace y) (length y)) (entered (marked c d overloaded) d (verdict.Overloaded (railPlace y)), store, sums)
-    (cond (still y) (entered (marked c d dead) d verdict.Dead, store, sums)
-    (outcome ((12, eqb (daysIn c standing) (c .slots)) ∷ []) (λ n. (entered c d (verdict.Refused n), store, sums)) (keptOutcome c store sums d y)))
+    (cond (still y) (entered (marked c d dead) d verdict.Dead, store, sums) (stayedOutcome c store sums d y))
 
 unfoldable pub enterOutcome : Campaign → List ℤ → List ℤ → ℕ → List ℤ → Entered × List ℤ × List ℤ
 enterOutcome c store sums d y =
@@ -149,9 +158,6 @@ unfoldable pub countsOutcome : Campaign → List ℤ → List ℤ → Counts
 countsOutcome c store sums = outcome ((15, apart c store sums) ∷ []) counts.Refused (counts.Counted (tally c))
 
 -- ---- response: 15, 6, 14; the answer, r, the mean, the wide room and the tags
-
-abbrev pub workShort : ℕ → List ℤ → List ℕ → Bool
-workShort N room tags = ltb (length room) (P N + 1) || ltb (length tags) (2 * P N)
 
 abbrev pub responseChecks : Campaign → List ℤ → List ℤ → List ℤ → List ℤ → List ℤ → List ℕ → List (ℕ × Bool)
 responseChecks c store sums r mean room tags =

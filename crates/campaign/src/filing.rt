@@ -1,8 +1,23 @@
-// The record with a day in another state, and with a slot given to it or taken from it.
+// The record of no days, with a day in another state, and with a slot given to it or taken from it.
 use crate::Campaign;
 ghost use mathlib.Core.Path.{_≡_};
 ghost use Prim.Native.Nat.{_≤_, _<_};
-ghost use Rattle.campaign.specs.Calls.{marked, filed};
+ghost use Rattle.campaign.specs.Calls.{fresh, marked, filed};
+
+// Every day unseen, every slot free.
+pub fn blank(order: u32, taps: u32, slots: u32) -> Campaign
+    ensures { λ r. ⌜ r ≡ fresh order taps slots ⌝ }
+{
+    let days = [0u8; 366];
+    let table = [0u16; 64];
+    Campaign {
+        order,
+        taps,
+        slots,
+        days,
+        table,
+    }
+}
 
 // Day d in the state q.
 pub fn mark(c: Campaign, d: u32, q: u8) -> Campaign

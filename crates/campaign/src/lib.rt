@@ -1,14 +1,18 @@
 // A campaign of days: the record, and what each call answers.
 pub mod answering;
 pub mod counting;
+pub mod entering;
 mod filing;
+mod judging;
 mod reread;
 mod rooms;
 mod sizes;
 mod slots;
+pub mod starting;
 mod stored;
 pub mod summing;
 mod tables;
+pub mod withdrawing;
 
 // A year of nights.
 pub const DAYS: usize = 366;
@@ -29,6 +33,12 @@ pub struct Campaign {
 pub struct Started {
     pub answer: u32,
     pub campaign: Campaign,
+}
+
+// What the scan for a rail finds: the first place, or none.
+pub enum Rail {
+    First(usize),
+    Clear,
 }
 
 pub enum Verdict {

@@ -1,29 +1,25 @@
-// Whether the memory lent for an answer is too short.
+// Whether what is lent is too short, by its lengths.
+use response::rooms::work_short;
 ghost use mathlib.Core.Path.{_≡_};
 ghost use mathlib.Core.Bool.{_||_};
 ghost use Prim.Native.Nat.{_+_, _*_, _≤_};
 ghost use lib.Dec.{ltb};
-ghost use lib.ListN.{length};
-
-// Whether the working room is short of P+1 wide numbers and 2P tags.
-pub fn work_short(period: usize, room: &[i64], tags: &[u16]) -> bool
-    requires { ⌜ period ≤ 65536 ⌝ }
-    ensures { λ r. ⌜ r ≡ ltb (length (now (room .entry))) (period + 1) || ltb (length (now (tags .entry))) (2 * period) ⌝ }
-{
-    room.len() < period + 1 || tags.len() < 2 * period
-}
 
 // Whether the outputs are short of P places each, or the working room is short.
-pub fn answer_short(period: usize, r: &[i64], mean: &[i32], room: &[i64], tags: &[u16]) -> bool
-    requires { ⌜ period ≤ 65536 ⌝ }
-    ensures { λ x. ⌜ x ≡ ltb (length (now (r .entry))) period || ltb (length (now (mean .entry))) period
-        || (ltb (length (now (room .entry))) (period + 1) || ltb (length (now (tags .entry))) (2 * period)) ⌝ }
+pub fn answer_short(period: usize, r: usize, mean: usize, room: usize, tags: usize) -> bool
+    requires { ⌜ period ≤ 65535 ⌝ }
+    ensures { λ x. ⌜ x ≡ ltb r period || ltb mean period || (ltb room (period + 1) || ltb tags (2 * period)) ⌝ }
 {
-    if r.len() < period {
+    if r < period {
         return true;
     }
-    if mean.len() < period {
-        return true;
-    }
-    work_short(period, room, tags)
+    mean < period || work_short(period, room, tags)
+}
+
+// Whether the store is short of C·P samples, or the sums of P.
+pub fn memory_short(slots: usize, period: usize, store: usize, sums: usize) -> bool
+    requires { ⌜ (slots ≤ 64) × (period ≤ 65535) ⌝ }
+    ensures { λ r. ⌜ r ≡ ltb store (slots * period) || ltb sums period ⌝ }
+{
+    store < slots * period || sums < period
 }

@@ -4,15 +4,20 @@ use crate::Extremes;
 use crate::Levels;
 use crate::Summary;
 use crate::reread::holds;
-use crate::rooms::work_short;
 use crate::sizes::level_of;
 use crate::sizes::measure;
 use crate::tables::days_in;
 use register::shift::full_period;
+use response::rooms::work_short;
 ghost use mathlib.Core.Path.{_≡_};
-ghost use Prim.Native.Nat.{_^_, _<_};
+ghost use mathlib.Core.Bool.{_||_};
+ghost use mathlib.Core.List.{List, [], _∷_};
+ghost use Prim.Native.Nat.{_+_, _*_, _^_, _<_};
+ghost use lib.Dec.{ltb};
 ghost use lib.IntN.{natAbs};
-ghost use Rattle.campaign.specs.Calls.{level, summaryOutcome};
+ghost use Rattle.sums.specs.Refusals.{first};
+ghost use Rattle.register.specs.Register.{P};
+ghost use Rattle.campaign.specs.Calls.{apart, level, summaryOutcome};
 
 // Each extreme over the same divisor.
 fn levels_of(e: Extremes, d: u64) -> Levels
@@ -30,6 +35,21 @@ fn levels_of(e: Extremes, d: u64) -> Levels
     }
 }
 
+// The first of 15, 6 that refuses a summary with so much room, and 0 where none does.
+fn summary_refusal(c: Campaign, store: &[i32], sums: &[i64], room: usize, tags: usize) -> u32
+    ensures { λ n. ⌜ n ≡ first ((15, apart c (now (store .entry)) (now (sums .entry)))
+        ∷ (6, ltb room (P (c .order) + 1) || ltb tags (2 * P (c .order))) ∷ []) ⌝ }
+{
+    if !holds(c, store, sums) {
+        return 15;
+    }
+    let order = c.order;
+    if work_short(full_period(order) as usize, room, tags) {
+        return 6;
+    }
+    0
+}
+
 // Nothing where no day stands, else the levels, refusing 15, 6.
 pub fn summary(
     c: Campaign,
@@ -41,20 +61,18 @@ pub fn summary(
     ensures { λ x. ⌜ (x, now (room .exit), now (tags .exit))
         ≡ summaryOutcome c (now (store .entry)) (now (sums .entry)) (now (room .entry)) (now (tags .entry)) ⌝ }
 {
-    if !holds(c, store, sums) {
-        return Summary::Refused(15);
+    let refusal = summary_refusal(c, store, sums, room.len(), tags.len());
+    if refusal != 0 {
+        return Summary::Refused(refusal);
     }
     let order = c.order;
     let taps = c.taps;
     let days = c.days;
-    let period = full_period(order) as usize;
-    if work_short(period, room, tags) {
-        return Summary::Refused(6);
-    }
     let n = days_in(&days, 1);
     if n == 0 {
         return Summary::Nothing;
     }
+    let divisor = (full_period(order) as u64 + 1) * n as u64;
     let extremes = measure(order, taps, sums, room, tags);
-    Summary::Measured(levels_of(extremes, (period as u64 + 1) * n as u64))
+    Summary::Measured(levels_of(extremes, divisor))
 }

@@ -5,8 +5,24 @@ ghost use Prim.Native.Nat.{_+_, _-_, _≤_};
 ghost use lib.Dec.{eqb, ltb, leb};
 ghost use lib.ListN.{length, getD};
 ghost use Rattle.sums.specs.Lists.{every, many, seek};
-ghost use Rattle.campaign.specs.Record.{slotsHold, statesHold, pastFree, slotsStand, oneSlot};
+ghost use Rattle.campaign.specs.Record.{stands, slotsHold, statesHold, pastFree, slotsStand, oneSlot};
 ghost use Rattle.campaign.specs.Calls.{tally};
+
+// Whether a number is not 1 to the most.
+pub fn outside(n: u32, most: u32) -> bool
+    ensures { λ r. ⌜ r ≡ ltb n 1 || ltb most n ⌝ }
+{
+    n < 1 || most < n
+}
+
+// Whether a day from 1 to 366 stands.
+pub fn day_stands(c: crate::Campaign, d: u32) -> bool
+    requires { ⌜ (1 ≤ d) × (d ≤ 366) ⌝ }
+    ensures { λ r. ⌜ r ≡ stands c d ⌝ }
+{
+    let days = c.days;
+    days[d as usize - 1] == 1
+}
 
 // Whether every day's state is one of the five.
 pub fn states_hold(days: &[u8]) -> bool

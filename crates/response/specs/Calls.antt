@@ -29,9 +29,13 @@ someOut n y = some n (λ j. sampleOut (y j))
 
 -- ---- one recording: 1 to 7; the answer, the output, the wide room and the tags
 
--- 6: output, P+1 wide numbers, 2P tags
+-- 6: the working room, P+1 wide numbers and 2P tags
+abbrev pub workShort : ℕ → List ℤ → List ℕ → Bool
+workShort N room tags = ltb (length room) (P N + 1) || ltb (length tags) (2 * P N)
+
+-- and with an output of P
 abbrev pub roomShort : ℕ → List ℤ → List ℤ → List ℕ → Bool
-roomShort N out room tags = ltb (length out) (P N) || ltb (length room) (P N + 1) || ltb (length tags) (2 * P N)
+roomShort N out room tags = ltb (length out) (P N) || workShort N room tags
 
 abbrev pub recordingChecks : ℕ → ℕ → List ℤ → List ℤ → List ℤ → List ℕ → List (ℕ × Bool)
 recordingChecks N taps y out room tags =

@@ -1,32 +1,18 @@
 // One recording turned into its response, by the fast route in lent room.
 use crate::range::some_out;
 use crate::respond::finish;
+use crate::rooms::room_short;
 use crate::spread::spread;
 use register::shift::full_period;
 use register::taps::check_taps;
 ghost use mathlib.Core.Path.{_≡_};
-ghost use mathlib.Core.Bool.{false, _||_};
+ghost use mathlib.Core.Bool.{false};
 ghost use Prim.Native.Nat.{_+_, _*_, _≤_, _<_};
-ghost use lib.Dec.{ltb};
 ghost use lib.ListN.{length};
 ghost use Rattle.sums.specs.Lists.{at, table, put};
 ghost use Rattle.register.specs.Register.{P, wave, Accepted};
 ghost use Rattle.response.specs.Response.{response};
 ghost use Rattle.response.specs.Calls.{someOut, clearedWide, clearedTags, recordingOutcome};
-
-// Whether an output of P, P+1 wide numbers or 2P tags are too short.
-pub fn room_short(period: usize, out: usize, room: usize, tags: usize) -> bool
-    requires { ⌜ period ≤ 65535 ⌝ }
-    ensures { λ r. ⌜ r ≡ ltb out period || ltb room (period + 1) || ltb tags (2 * period) ⌝ }
-{
-    if out < period {
-        return true;
-    }
-    if room < period + 1 {
-        return true;
-    }
-    tags < 2 * period
-}
 
 // The response of a recording that has passed the checks: into the output, and the room cleared.
 fn turn(order: u32, taps: u32, y: &[i32], out: &mut [i64], room: &mut [i64], tags: &mut [u16])

@@ -62,3 +62,11 @@ module _ {A : Type 0} (refused : ℕ → A) (accepted : A) where
   -- r is the first checks' answer, and 0
   pub passed-early : (a b : List (ℕ × Bool)) (r : ℕ) → T (numbered a) → r ≡ first a → r ≡ 0 → outcome (a ++ b) refused accepted ≡ outcome b refused accepted
   passed-early a b r t e z = ap (λ n. answered n refused accepted) (passed-first a b t (sym e ∙ z))
+
+  -- r is the answer, and no 0
+  pub refused-with : (checks : List (ℕ × Bool)) (r : ℕ) → r ≡ first checks → (r ≡ 0 → ⊥) → outcome checks refused accepted ≡ refused r
+  refused-with checks r e h = ap (λ n. answered n refused accepted) (sym e) ∙ answered-refused r h
+
+  -- r is the answer, and 0
+  pub accepted-with : (checks : List (ℕ × Bool)) (r : ℕ) → r ≡ first checks → r ≡ 0 → outcome checks refused accepted ≡ accepted
+  accepted-with checks r e z = ap (λ n. answered n refused accepted) (sym e ∙ z)

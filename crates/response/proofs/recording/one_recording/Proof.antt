@@ -17,7 +17,7 @@ use Rattle.register.specs.Calls.{tapsChecks, tapsAnswer}
 use Rattle.register.proofs.Judged.{accepted-exactly}
 use Rattle.register.proofs.Word.{small}
 use Rattle.response.specs.Response.{response}
-use Rattle.response.specs.Calls.{lengthOff, roomShort, someOut, clearedWide, clearedTags, recordingOutcome}
+use Rattle.response.specs.Calls.{lengthOff, workShort, roomShort, someOut, clearedWide, clearedTags, recordingOutcome}
 use Rattle.response.proofs.recording.one_recording.Statement.{statement}
 use Rattle.response.proofs.recording.one_recording.Tie as tie
 
@@ -123,11 +123,10 @@ turn-requires c κs =
     let f = g .before .before in
     let d = f .before .before in
     let a = d .before .before .before .before .before .args in
-    let room = or-false (ltb (length (a .out .now)) (P (a .order)) || ltb (length (a .room .now)) (P (a .order) + 1)) (ltb (length (a .tags .now)) (2 * P (a .order)))
-    (sym (short (f .before)) ∙ f .if3 .left) in
-    let both = or-false (ltb (length (a .out .now)) (P (a .order))) (ltb (length (a .room .now)) (P (a .order) + 1)) (room .0) in (
+    let output = or-false (ltb (length (a .out .now)) (P (a .order))) (workShort (a .order) (a .room .now) (a .tags .now)) (sym (short (f .before)) ∙ f .if3 .left) in
+    let work = or-false (ltb (length (a .room .now)) (P (a .order) + 1)) (ltb (length (a .tags .now)) (2 * P (a .order))) (output .1) in (
       (accepted (d .before .before), long d, sym (g .before .some-out .ensures) ∙ g .if4 .left),
-      (ltb-false _ _ (both .0), omega (arith, ltb-false (length (a .room .now)) (P (a .order) + 1) (both .1)), ltb-false _ _ (room .1)),
+      (ltb-false _ _ (output .0), omega (arith, ltb-false (length (a .room .now)) (P (a .order) + 1) (work .0)), ltb-false _ _ (work .1)),
     )
 
 same-length : tie.Need-same-length

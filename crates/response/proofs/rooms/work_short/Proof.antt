@@ -1,8 +1,8 @@
--- `campaign::rooms::work_short` meets its contract. Assumes nothing.
+-- `response::rooms::work_short` meets its contract. Assumes nothing.
 use borrow.Author.Needs.{needs}
 use borrow.Author.Tests.{lt-ltb, le-ltb}
-use Rattle.campaign.proofs.rooms.work_short.Statement.{statement}
-use Rattle.campaign.proofs.rooms.work_short.Tie as tie
+use Rattle.response.proofs.rooms.work_short.Statement.{statement}
+use Rattle.response.proofs.rooms.work_short.Tie as tie
 
 add-if1 : tie.Need-add-if1
 add-if1 c = search needs

@@ -1,0 +1,26 @@
+-- `campaign::judging::at_rail` meets its contract: each return rewrites with the test that led there. Assumes nothing.
+use mathlib.Core.Path.{_≡_, sym, _∙_}
+use mathlib.Core.Bool.{true, false}
+use native.Mathlib.Omega.{arith}
+use borrow.Author.Tests.{eq-eqb, ne-eqb}
+use lib.IntN.{pos, negsuc}
+use mir.Syntax.{w32}
+use Rattle.campaign.specs.Record.{eqZ}
+use Rattle.campaign.proofs.Rows.{bits-test}
+use Rattle.campaign.proofs.judging.at_rail.Statement.{statement}
+use Rattle.campaign.proofs.judging.at_rail.Tie as tie
+
+returns : tie.Need-returns
+returns c =
+    let x = c .before .args .x in
+    let t = eq-eqb _ _ (c .if1 .taken) in
+    simp (t, sym (bits-test w32 x (negsuc 8388607) (c .before .fits .x) (record { sfits = omega arith })) ∙ t)
+
+returns-2 : tie.Need-returns-2
+returns-2 c =
+    let x = c .before .args .x in
+    let low = sym (bits-test w32 x (negsuc 8388607) (c .before .fits .x) (record { sfits = omega arith })) ∙ ne-eqb _ _ (c .if1 .left) in
+    simp (low, bits-test w32 x (pos 8388607) (c .before .fits .x) (record { sfits = omega arith }))
+
+pub at-rail-spec : {M : Type 1} → statement M
+at-rail-spec = tie.close (tie.spec returns returns-2)

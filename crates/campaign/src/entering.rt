@@ -1,0 +1,103 @@
+// The answer of enter.
+use crate::Campaign;
+use crate::Entered;
+use crate::Entry;
+use crate::Rail;
+use crate::Verdict;
+use crate::filing::file;
+use crate::filing::mark;
+use crate::judging::all_equal;
+use crate::judging::first_rail;
+use crate::reread::holds;
+use crate::slots::fill_slot;
+use crate::tables::day_stands;
+use crate::tables::days_in;
+use crate::tables::find;
+use crate::tables::outside;
+use register::shift::full_period;
+use response::range::some_out;
+ghost use mathlib.Core.Path.{_≡_};
+ghost use mathlib.Core.Bool.{false};
+ghost use mathlib.Core.List.{List, [], _∷_};
+ghost use Prim.Native.Nat.{_≤_};
+ghost use lib.Dec.{eqb, ltb};
+ghost use lib.ListN.{length};
+ghost use Rattle.sums.specs.Refusals.{first};
+ghost use Rattle.campaign.specs.Record.{together};
+ghost use Rattle.campaign.specs.Calls.{enterChecks, stayedOutcome, judgedOutcome, enterOutcome};
+
+// The first of 15, 10, 5, 7, 11 that refuses an entry, and 0 where none does.
+fn enter_refusal(c: Campaign, store: &[i32], sums: &[i64], d: u32, y: &[i32]) -> u32
+    ensures { λ n. ⌜ n ≡ first (enterChecks c (now (store .entry)) (now (sums .entry)) d (now (y .entry))) ⌝ }
+{
+    if !holds(c, store, sums) {
+        return 15;
+    }
+    if outside(d, 366) {
+        return 10;
+    }
+    let order = c.order;
+    if y.len() != full_period(order) as usize {
+        return 5;
+    }
+    if some_out(y) {
+        return 7;
+    }
+    if day_stands(c, d) {
+        return 11;
+    }
+    0
+}
+
+// The record with the verdict beside the day.
+fn entered(c: Campaign, d: u32, verdict: Verdict) -> Entered
+    ensures { λ r. ⌜ r ≡ record { entry = record { day = d; verdict = verdict }; campaign = c } ⌝ }
+{
+    Entered {
+        entry: Entry { day: d, verdict },
+        campaign: c,
+    }
+}
+
+// A recording with no fault goes to the lowest-numbered free slot and is added to the sums, refusing 12.
+fn keep(c: Campaign, store: &mut [i32], sums: &mut [i64], d: u32, y: &[i32]) -> Entered
+    requires { ⌜ first (enterChecks c (now store) (now sums) d (now y)) ≡ 0 ⌝ }
+    ensures { λ r. ⌜ (r, now (store .exit), now (sums .exit)) ≡ stayedOutcome c (now (store .entry)) (now (sums .entry)) d (now (y .entry)) ⌝ }
+{
+    let slots = c.slots as usize;
+    let days = c.days;
+    if days_in(&days, 1) as usize == slots {
+        return entered(c, d, Verdict::Refused(12));
+    }
+    let table = c.table;
+    let s = find(&table, slots, 0);
+    fill_slot(s, y, store, sums);
+    entered(file(c, d, 1, s, d as u16), d, Verdict::Kept(s))
+}
+
+// The verdict on a recording that has passed the checks.
+fn judge(c: Campaign, store: &mut [i32], sums: &mut [i64], d: u32, y: &[i32]) -> Entered
+    requires { ⌜ first (enterChecks c (now store) (now sums) d (now y)) ≡ 0 ⌝ }
+    ensures { λ r. ⌜ (r, now (store .exit), now (sums .exit)) ≡ judgedOutcome c (now (store .entry)) (now (sums .entry)) d (now (y .entry)) ⌝ }
+{
+    match first_rail(y) {
+        Rail::First(p) => entered(mark(c, d, 2), d, Verdict::Overloaded(p)),
+        Rail::Clear => {
+            if all_equal(y) {
+                return entered(mark(c, d, 3), d, Verdict::Dead);
+            }
+            keep(c, store, sums, d, y)
+        }
+    }
+}
+
+// A day's recording judged, and kept where it has no fault, refusing 15, 10, 5, 7, 11, and 12 after the verdict.
+pub fn enter(c: Campaign, store: &mut [i32], sums: &mut [i64], d: u32, y: &[i32]) -> Entered
+    ensures { λ r. ⌜ (r, now (store .exit), now (sums .exit)) ≡ enterOutcome c (now (store .entry)) (now (sums .entry)) d (now (y .entry)) ⌝ }
+{
+    let refusal = enter_refusal(c, store, sums, d, y);
+    if refusal != 0 {
+        return entered(c, d, Verdict::Refused(refusal));
+    }
+    judge(c, store, sums, d, y)
+}

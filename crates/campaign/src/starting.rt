@@ -1,0 +1,63 @@
+// The answer of start.
+use crate::Campaign;
+use crate::Started;
+use crate::filing::blank;
+use crate::rooms::memory_short;
+use crate::slots::clear_samples;
+use crate::tables::outside;
+use register::shift::full_period;
+use register::taps::check_taps;
+use response::clear::clear_wide;
+ghost use mathlib.Core.Path.{_≡_};
+ghost use mathlib.Core.Bool.{_||_};
+ghost use mathlib.Core.List.{List, [], _∷_, _++_};
+ghost use Prim.Native.Nat.{_*_};
+ghost use lib.Dec.{ltb};
+ghost use Rattle.sums.specs.Refusals.{first};
+ghost use Rattle.register.specs.Register.{P};
+ghost use Rattle.register.specs.Calls.{tapsChecks};
+ghost use Rattle.campaign.specs.Calls.{slotsOut, startOutcome};
+
+// The first of 1, 2, 3, 4, 9, 6 that refuses a start with so much memory, and 0 where none does.
+fn start_refusal(order: u32, taps: u32, slots: u32, store: usize, sums: usize) -> u32
+    ensures { λ n. ⌜ n ≡ first (tapsChecks order taps ++ (9, slotsOut slots) ∷ (6, ltb store (slots * P order) || ltb sums (P order)) ∷ []) ⌝ }
+{
+    let refusal = check_taps(order, taps);
+    if refusal != 0 {
+        return refusal;
+    }
+    if outside(slots, 64) {
+        return 9;
+    }
+    if memory_short(slots as usize, full_period(order) as usize, store, sums) {
+        return 6;
+    }
+    0
+}
+
+// Every day unseen, every slot free, zeros in the store and the sums, refusing 1, 2, 3, 4, 9, 6.
+pub fn start(
+    c: Campaign,
+    order: u32,
+    taps: u32,
+    slots: u32,
+    store: &mut [i32],
+    sums: &mut [i64],
+) -> Started
+    ensures { λ r. ⌜ (r, now (store .exit), now (sums .exit)) ≡ startOutcome c order taps slots (now (store .entry)) (now (sums .entry)) ⌝ }
+{
+    let refusal = start_refusal(order, taps, slots, store.len(), sums.len());
+    if refusal != 0 {
+        return Started {
+            answer: refusal,
+            campaign: c,
+        };
+    }
+    let period = full_period(order) as usize;
+    clear_samples(store, slots as usize * period);
+    clear_wide(sums, period);
+    Started {
+        answer: 0,
+        campaign: blank(order, taps, slots),
+    }
+}
