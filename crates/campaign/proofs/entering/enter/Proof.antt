@@ -1,47 +1,57 @@
+-- `campaign::entering::enter` meets its contract. Assumes nothing.
+use mathlib.Core.Path.{_≡_, sym, ap, _∙_}
+use mathlib.Core.List.{List}
+use Prim.Native.Nat.{ℕ}
 use borrow.Author.Needs.{needs}
+use lib.IntN.{ℤ}
+use Rattle.sums.specs.Refusals.{first}
+use Rattle.sums.proofs.First.{refused-with, accepted-with}
+use Rattle.campaign.specs.Calls.{entered, enterChecks, judgedOutcome, enterOutcome}
+use Rattle.campaign.specs.declared.Campaign.{Campaign}
+use Rattle.campaign.specs.declared.Entered.{Entered}
+use Rattle.campaign.specs.declared.Verdict.the-variants as verdict
 use Rattle.campaign.proofs.entering.enter.Statement.{statement}
 use Rattle.campaign.proofs.entering.enter.Tie as tie
-use Rattle.campaign.proofs.entering.enter.Reads as reads
-use Rattle.campaign.proofs.entering.enter.Lts as lts
-use Rattle.campaign.proofs.entering.enter_refusal.Reads as enter-refusal-reads
-use Rattle.campaign.proofs.entering.entered.Reads as entered-reads
-use Rattle.campaign.proofs.entering.judge.Reads as judge-reads
 
--- src/entering.rt:98:9
+module _ (c : Campaign) (store sums : List ℤ) (d : ℕ) (y : List ℤ) (n : ℕ) (e : n ≡ first (enterChecks c store sums d y)) where
+  refused : (n ≡ 0 → ⊥) → {r : Entered} → r ≡ entered c d (verdict.Refused n) → (r, store, sums) ≡ enterOutcome c store sums d y
+  unfolding enterOutcome
+  refused h p = ap (λ r. (r, store, sums)) p ∙ sym (refused-with _ _ (enterChecks c store sums d y) n e h)
+
+  judged : n ≡ 0 → judgedOutcome c store sums d y ≡ enterOutcome c store sums d y
+  unfolding enterOutcome
+  judged z = sym (accepted-with _ _ (enterChecks c store sums d y) n e z)
+
 enter-refusal-requires : tie.Need-enter-refusal-requires
 enter-refusal-requires c κs = search needs
 
--- src/entering.rt:100:9
 entered-requires : tie.Need-entered-requires
 entered-requires c κs = search needs
 
--- src/entering.rt:100:9
 same-length : tie.Need-same-length
 same-length c = search needs
 
--- src/entering.rt:100:9
 same-length-2 : tie.Need-same-length-2
 same-length-2 c = search needs
 
--- src/entering.rt:100:9
 returns : tie.Need-returns
-returns c = ?
+returns c = let a = c .before .before .before .before .before .args in refused (a .c) (a .store .now) (a .sums .now) (a .d) (a .y .now) _ (c .before .before .enter-refusal .ensures) (c .before .if1 .taken) (c .entered .ensures)
 
--- src/entering.rt:102:5
 judge-requires : tie.Need-judge-requires
 judge-requires c κs = search needs
 
--- src/entering.rt:95:1
 same-length-3 : tie.Need-same-length-3
 same-length-3 c = search needs
 
--- src/entering.rt:95:1
 same-length-4 : tie.Need-same-length-4
 same-length-4 c = search needs
 
--- src/entering.rt:95:1
 returns-2 : tie.Need-returns-2
-returns-2 c = ?
+returns-2 c =
+    let w = c .before .before .before .before .before in
+    let a = w .before .before .before .before .args in
+    c .before .before .judge .ensures
+    ∙ judged (a .c) (a .store .now) (a .sums .now) (a .d) (a .y .now) _ (w .before .enter-refusal .ensures) (w .if1 .left)
 
 pub enter-spec : {M : Type 1} → statement M
 enter-spec =

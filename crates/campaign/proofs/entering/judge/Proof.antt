@@ -1,69 +1,112 @@
+-- `campaign::entering::judge` meets its contract. Assumes nothing.
+use mathlib.Core.Path.{_≡_, refl, sym, ap, _∙_}
+use mathlib.Core.Bool.{Bool, true, false, cond, true≢false}
+use mathlib.Core.List.{List}
+use Prim.Native.Nat.{ℕ}
 use borrow.Author.Needs.{needs}
+use lib.Dec.{ltb}
+use lib.IntN.{ℤ}
+use lib.ListN.{length}
+use Rattle.campaign.specs.Record.{overloaded, dead}
+use Rattle.campaign.specs.Calls.{railPlace, railOf, still, marked, entered, stayedOutcome, judgedOutcome}
+use Rattle.campaign.specs.declared.Campaign.{Campaign}
+use Rattle.campaign.specs.declared.Entered.{Entered}
+use Rattle.campaign.specs.declared.Rail.{Rail}
+use Rattle.campaign.specs.declared.Rail.the-variants as scan
+use Rattle.campaign.specs.declared.Verdict.the-variants as verdict
+use Rattle.campaign.proofs.Passing.{enters}
+use Rattle.campaign.proofs.Refiling.{Day}
 use Rattle.campaign.proofs.entering.judge.Statement.{statement}
 use Rattle.campaign.proofs.entering.judge.Tie as tie
-use Rattle.campaign.proofs.entering.judge.Reads as reads
-use Rattle.campaign.proofs.entering.judge.Lts as lts
-use Rattle.campaign.proofs.entering.entered.Reads as entered-reads
-use Rattle.campaign.proofs.entering.keep.Reads as keep-reads
-use Rattle.campaign.proofs.filing.mark.Reads as mark-reads
-use Rattle.campaign.proofs.judging.all_equal.Reads as all-equal-reads
-use Rattle.campaign.proofs.judging.first_rail.Reads as first-rail-reads
 
--- src/entering.rt:83:11
+-- ---- what the scan found
+
+abbrev some : Rail → Bool
+some (scan.First p) = true
+some scan.Clear = false
+
+abbrev place : Rail → ℕ
+place (scan.First p) = p
+place scan.Clear = 0
+
+at-first : (b : Bool) (p q : ℕ) → scan.First p ≡ cond b (scan.First q) scan.Clear → (b ≡ true) × (p ≡ q)
+at-first true p q e = (refl, ap place e)
+at-first false p q e = absurd (true≢false (ap some e))
+
+at-none : (b : Bool) (q : ℕ) → scan.Clear ≡ cond b (scan.First q) scan.Clear → b ≡ false
+at-none true q e = absurd (true≢false (sym (ap some e)))
+at-none false q e = refl
+
+-- ---- the outcome, by the verdict
+
+module _ (c : Campaign) (store sums : List ℤ) (d : ℕ) (y : List ℤ) where
+  railed : (p : ℕ) → scan.First p ≡ railOf y → {r : Entered} → r ≡ entered (marked c d overloaded) d (verdict.Overloaded p)
+      → (r, store, sums) ≡ judgedOutcome c store sums d y
+  railed p e q = let f = at-first (ltb (railPlace y) (length y)) p (railPlace y) e in rw (q, f .1) (simp (f .0))
+
+  module _ (e : scan.Clear ≡ railOf y) where
+    stilled : still y ≡ true → {r : Entered} → r ≡ entered (marked c d dead) d verdict.Dead → (r, store, sums) ≡ judgedOutcome c store sums d y
+    stilled s q = rw q (simp (at-none (ltb (railPlace y) (length y)) (railPlace y) e, s))
+
+    stayed : still y ≡ false → stayedOutcome c store sums d y ≡ judgedOutcome c store sums d y
+    stayed s = simp (at-none (ltb (railPlace y) (length y)) (railPlace y) e, s)
+
+ready : (c : tie.Start) → Day (c .args .d)
+ready c = let a = c .args in enters (a .c) (a .store .now) (a .sums .now) (a .d) (a .y .now) (c .pre) .day
+
 first-rail-requires : tie.Need-first-rail-requires
 first-rail-requires c κs = search needs
 
--- src/entering.rt:84:21
 enum-known-p : tie.Need-enum-known-p
 enum-known-p c = search needs
 
--- src/entering.rt:84:35
 mark-requires : tie.Need-mark-requires
-mark-requires c κs = ?
+mark-requires c κs = let r = ready (c .before .before .before .before) in (r .first, r .last)
 
--- src/entering.rt:84:27
 entered-requires : tie.Need-entered-requires
 entered-requires c κs = search needs
 
--- src/entering.rt:86:16
 enum-told : tie.Need-enum-told
 enum-told c = search needs
 
--- src/entering.rt:86:16
+none : (c : tie.After-enum-told) → scan.Clear ≡ railOf (c .before .before .before .args .y .now)
+none c = sym (c .enum-told .given .1) ∙ c .before .before .first-rail .ensures
+
 all-equal-requires : tie.Need-all-equal-requires
 all-equal-requires c κs = search needs
 
--- src/entering.rt:87:32
 mark-requires-2 : tie.Need-mark-requires-2
-mark-requires-2 c κs = ?
+mark-requires-2 c κs = let r = ready (c .before .before .before .before .before) in (r .first, r .last)
 
--- src/entering.rt:87:17
 entered-requires-2 : tie.Need-entered-requires-2
 entered-requires-2 c κs = search needs
 
--- src/entering.rt:87:17
 returns : tie.Need-returns
-returns c = ?
+returns c =
+    let a = c .before .before .before .before .before .before .before .args in
+    stilled (a .c) (a .store .now) (a .sums .now) (a .d) (a .y .now) (none (c .before .before .before .before)) (sym (c .before .before .before .all-equal .ensures) ∙ c .before .before .if1 .taken)
+    (c .entered2 .ensures ∙ ap (λ k. entered k (a .d) verdict.Dead) (c .before .mark2 .ensures))
 
--- src/entering.rt:89:13
 keep-requires : tie.Need-keep-requires
 keep-requires c κs = search needs
 
--- src/entering.rt:79:1
 returns-2 : tie.Need-returns-2
-returns-2 c = ?
+returns-2 c =
+    let a = c .before .before .before .before .before .before .args in
+    let g = c .before .before .before .p .given in
+    railed (a .c) (a .store .now) (a .sums .now) (a .d) (a .y .now) _ (sym (g .1) ∙ c .before .before .before .before .before .first-rail .ensures)
+    (c .entered .ensures ∙ ap (λ k. entered k (a .d) (verdict.Overloaded (g .0 .0))) (c .before .mark .ensures))
 
--- src/entering.rt:79:1
 same-length : tie.Need-same-length
 same-length c = search needs
 
--- src/entering.rt:79:1
 same-length-2 : tie.Need-same-length-2
 same-length-2 c = search needs
 
--- src/entering.rt:79:1
 returns-3 : tie.Need-returns-3
-returns-3 c = ?
+returns-3 c =
+    let a = c .before .before .before .before .before .before .before .before .before .before .args in
+    c .before .before .keep .ensures ∙ stayed (a .c) (a .store .now) (a .sums .now) (a .d) (a .y .now) (none (c .before .before .before .before .before .before .before)) (sym (c .before .before .before .before .before .before .all-equal .ensures) ∙ c .before .before .before .before .before .if1 .left)
 
 pub judge-spec : {M : Type 1} → statement M
 judge-spec =

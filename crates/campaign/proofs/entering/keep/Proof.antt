@@ -1,73 +1,109 @@
+-- `campaign::entering::keep` meets its contract. Assumes nothing.
+use mathlib.Core.Path.{_≡_, sym, ap, _∙_}
+use mathlib.Core.List.{List, [], _∷_}
+use Prim.Native.Nat.{ℕ, _*_, _<_}
+use native.Mathlib.Omega.{arith}
 use borrow.Author.Needs.{needs}
+use borrow.Author.Tests.{eq-eqb, ne-eqb}
+use lib.IntN.{ℤ, _+ℤ_}
+use lib.ListN.{length}
+use Rattle.sums.specs.Lists.{at, table, put, putAt}
+use Rattle.sums.specs.Refusals.{outcome}
+use Rattle.register.specs.Register.{P}
+use Rattle.campaign.specs.Record.{standing, daysIn}
+use Rattle.campaign.specs.Calls.{filed, entered, lowestFree, keptOutcome, stayedOutcome}
+use Rattle.campaign.specs.declared.Campaign.{Campaign}
+use Rattle.campaign.specs.declared.Entered.{Entered}
+use Rattle.campaign.specs.declared.Verdict.the-variants as verdict
+use Rattle.campaign.proofs.Loops.{days-in-is}
+use Rattle.campaign.proofs.Passing.{Enters, enters, period-small, slot-fits, sums-small}
+use Rattle.campaign.proofs.Steps.{lowest-free}
 use Rattle.campaign.proofs.entering.keep.Statement.{statement}
 use Rattle.campaign.proofs.entering.keep.Tie as tie
-use Rattle.campaign.proofs.entering.keep.Reads as reads
-use Rattle.campaign.proofs.entering.keep.Lts as lts
-use Rattle.campaign.proofs.entering.entered.Reads as entered-reads
-use Rattle.campaign.proofs.filing.file.Reads as file-reads
-use Rattle.campaign.proofs.slots.fill_slot.Reads as fill-slot-reads
-use Rattle.campaign.proofs.tables.days_in.Reads as days-in-reads
-use Rattle.campaign.proofs.tables.find.Reads as find-reads
 
--- src/entering.rt:67:17
+module _ (c : Campaign) (store sums : List ℤ) (d : ℕ) (y : List ℤ) where
+  full : daysIn c standing ≡ c .slots → {r : Entered} → r ≡ entered c d (verdict.Refused 12) → (r, store, sums) ≡ stayedOutcome c store sums d y
+  full e p =
+      ap (λ r. (r, store, sums)) p
+      ∙ sym (ap (λ b. outcome ((12, b) ∷ []) (λ n. (entered c d (verdict.Refused n), store, sums)) (keptOutcome c store sums d y)) (eq-eqb (daysIn c standing) (c .slots) e))
+
+  kept : (daysIn c standing ≡ c .slots → ⊥) → (k n : ℕ) → k ≡ lowestFree c → n ≡ P (c .order) → {r : Entered} {s u : List ℤ}
+      → r ≡ entered (filed c d standing k d) d (verdict.Kept k) → s ≡ putAt (k * n) y store → u ≡ put (table n (λ j. at sums j +ℤ at y j)) sums
+      → (r, s, u) ≡ stayedOutcome c store sums d y
+  kept e k n f g p q t =
+      rw (p, q, t, f, g)
+      (sym (ap (λ b. outcome ((12, b) ∷ []) (λ n. (entered c d (verdict.Refused n), store, sums)) (keptOutcome c store sums d y)) (ne-eqb (daysIn c standing) (c .slots) e)))
+
+ready : (c : tie.Start) → let a = c .args in Enters (a .c) (a .store .now) (a .sums .now) (a .d) (a .y .now)
+ready c = let a = c .args in enters (a .c) (a .store .now) (a .sums .now) (a .d) (a .y .now) (c .pre)
+
 cast-slots : tie.Need-cast-slots
 cast-slots c = search needs
 
--- src/entering.rt:69:16
 slice-aggregate-days-in : tie.Need-slice-aggregate-days-in
 slice-aggregate-days-in c = search needs
 
--- src/entering.rt:69:8
 days-in-requires : tie.Need-days-in-requires
 days-in-requires c κs = search needs
 
--- src/entering.rt:69:8
+standing-are : (c : tie.After-days-in) → c .days-in .result ≡ daysIn (c .before .before .before .before .args .c) standing
+standing-are c = c .days-in .ensures ∙ days-in-is (c .before .before .before .before .args .c) standing
+
 cast-if1 : tie.Need-cast-if1
 cast-if1 c = search needs
 
--- src/entering.rt:70:9
 entered-requires : tie.Need-entered-requires
 entered-requires c κs = search needs
 
--- src/entering.rt:70:9
 returns : tie.Need-returns
-returns c = ?
+returns c =
+    let a = c .before .before .before .before .before .before .args in
+    full (a .c) (a .store .now) (a .sums .now) (a .d) (a .y .now) (sym (standing-are (c .before .before)) ∙ c .before .if1 .taken) (c .entered .ensures)
 
--- src/entering.rt:73:18
+few : (c : tie.Else1) → let r = c .before .before .before .before .before .args .c in daysIn r standing ≡ r .slots → ⊥
+few c e = c .if1 .left (standing-are (c .before) ∙ e)
+
 slice-aggregate-find : tie.Need-slice-aggregate-find
 slice-aggregate-find c = search needs
 
--- src/entering.rt:73:9
 find-requires : tie.Need-find-requires
-find-requires c κs = ?
+find-requires c κs = (search needs, ready (c .before .before .before .before .before .before .before) .whole .filed .most)
 
--- src/entering.rt:74:5
+slot-inside : (c : tie.After-find) → c .find .result < c .before .before .before .before .before .before .before .before .args .c .slots
+slot-inside c = rw (c .find .ensures) (lowest-free _ (ready (c .before .before .before .before .before .before .before .before) .whole .filed) (few (c .before .before .before)) .0)
+
 fill-slot-requires : tie.Need-fill-slot-requires
-fill-slot-requires c κs = ?
+fill-slot-requires c κs =
+    let r = ready (c .before .before .before .before .before .before .before .before .before .before) in
+    let k = slot-inside (c .before .before) in
+    rw (r .long) (
+      (omega (arith, k, r .whole .filed .most), period-small (r .whole), slot-fits (r .whole) _ k),
+      (r .whole .sums-long, sums-small (r .whole)),
+    )
 
--- src/entering.rt:75:30
 cast-file : tie.Need-cast-file
-cast-file c = ?
+cast-file c = record { fits = omega (arith, ready (c .before .before .before .before .before .before .before .before .before .before .before .before .before) .day .last) }
 
--- src/entering.rt:75:13
 file-requires : tie.Need-file-requires
-file-requires c κs = ?
+file-requires c κs = let r = ready (c .before .before .before .before .before .before .before .before .before .before .before .before .before) in (r .day .first, r .day .last, omega (arith, slot-inside (c .before .before .before .before .before), r .whole .filed .most))
 
--- src/entering.rt:75:5
 entered-requires-2 : tie.Need-entered-requires-2
 entered-requires-2 c κs = search needs
 
--- src/entering.rt:63:1
 same-length : tie.Need-same-length
 same-length c = search needs
 
--- src/entering.rt:63:1
 same-length-2 : tie.Need-same-length-2
 same-length-2 c = search needs
 
--- src/entering.rt:63:1
 returns-2 : tie.Need-returns-2
-returns-2 c = ?
+returns-2 c =
+    let f = c .before .before .before .before .before .before .before in
+    let b = c .before .before .before .before .before .before .before .before .before .before .before .before .before .before .before in
+    let a = b .args in
+    let e = c .before .before .before .before .fill-slot .ensures in
+    kept (a .c) (a .store .now) (a .sums .now) (a .d) (a .y .now) (few (c .before .before .before .before .before .before .before .before .before .before)) (f .find .result) (length (a .y .now)) (f .find .ensures) (ready b .long)
+    (c .entered2 .ensures ∙ ap (λ k. entered k (a .d) (verdict.Kept (f .find .result))) (c .before .file .ensures)) (e .0) (e .1)
 
 pub keep-spec : {M : Type 1} → statement M
 keep-spec =

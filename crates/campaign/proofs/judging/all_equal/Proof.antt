@@ -53,7 +53,7 @@ loop-again c =
     let j = l .loop .j in (
       omega arith,
       every-more (λ i. eqZ (at y i) (at y 0)) j (l .loop .inv .1)
-      (eqZ-same (same-bits w32 (at y j) (at y 0) (record { sfits = c .before .before .if12 .given }) (record { sfits = c .before .if13 .given }) (c .if1 .left))),
+          (eqZ-same (same-bits w32 (at y j) (at y 0) (record { sfits = c .before .before .if12 .given }) (record { sfits = c .before .if13 .given }) (c .if1 .left))),
     )
 
 returns-2 : tie.Need-returns-2 Inv-loop μ-loop
