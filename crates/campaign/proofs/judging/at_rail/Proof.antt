@@ -1,11 +1,9 @@
 -- `campaign::judging::at_rail` meets its contract: each return rewrites with the test that led there. Assumes nothing.
-use mathlib.Core.Path.{_≡_, sym, _∙_}
-use mathlib.Core.Bool.{true, false}
+use mathlib.Core.Path.{sym, _∙_}
 use native.Mathlib.Omega.{arith}
 use borrow.Author.Tests.{eq-eqb, ne-eqb}
 use lib.IntN.{pos, negsuc}
 use mir.Syntax.{w32}
-use Rattle.campaign.specs.Record.{eqZ}
 use Rattle.campaign.proofs.Rows.{bits-test}
 use Rattle.campaign.proofs.judging.at_rail.Statement.{statement}
 use Rattle.campaign.proofs.judging.at_rail.Tie as tie

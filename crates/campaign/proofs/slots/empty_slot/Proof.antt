@@ -10,10 +10,6 @@ use Rattle.sums.proofs.Tables.{length-table, table-ext}
 use Rattle.campaign.proofs.Parts.{part-length, part-put, part-at}
 use Rattle.campaign.proofs.slots.empty_slot.Statement.{statement}
 use Rattle.campaign.proofs.slots.empty_slot.Tie as tie
-use Rattle.campaign.proofs.slots.empty_slot.Reads as reads
-use Rattle.campaign.proofs.slots.empty_slot.Lts as lts
-use Rattle.campaign.proofs.slots.clear_samples.Reads as clear-samples-reads
-use Rattle.campaign.proofs.slots.take_out.Reads as take-out-reads
 
 mul-from : tie.Need-mul-from
 mul-from c = search needs

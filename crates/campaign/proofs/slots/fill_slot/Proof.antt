@@ -8,10 +8,6 @@ use Rattle.sums.specs.Lists.{put}
 use Rattle.campaign.proofs.Parts.{table-at, part-put, by-sums}
 use Rattle.campaign.proofs.slots.fill_slot.Statement.{statement}
 use Rattle.campaign.proofs.slots.fill_slot.Tie as tie
-use Rattle.campaign.proofs.slots.fill_slot.Reads as reads
-use Rattle.campaign.proofs.slots.fill_slot.Lts as lts
-use Rattle.campaign.proofs.slots.copy_in.Reads as copy-in-reads
-use Rattle.campaign.proofs.stored.add_row.Reads as add-row-reads
 
 mul-from : tie.Need-mul-from
 mul-from c = search needs

@@ -1,5 +1,5 @@
 -- `campaign::withdrawing::withdraw` meets its contract. Assumes nothing.
-use mathlib.Core.Path.{_≡_, sym, ap, _∙_}
+use mathlib.Core.Path.{_≡_, sym, _∙_}
 use mathlib.Core.List.{List}
 use Prim.Native.Nat.{ℕ, _+_, _*_, _<_}
 use native.Mathlib.Omega.{arith}
@@ -9,7 +9,7 @@ use Rattle.sums.specs.Lists.{at, table, put, putAt}
 use Rattle.sums.specs.Refusals.{first}
 use Rattle.sums.proofs.First.{refused-with, accepted-with}
 use Rattle.register.specs.Register.{P}
-use Rattle.campaign.specs.Record.{withdrawn, base, sample}
+use Rattle.campaign.specs.Record.{withdrawn}
 use Rattle.campaign.specs.Calls.{filed, slotOfDay, withdrawChecks, withdrawOutcome}
 use Rattle.campaign.specs.declared.Campaign.{Campaign}
 use Rattle.campaign.specs.declared.Withdrawn.{Withdrawn}
