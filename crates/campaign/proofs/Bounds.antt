@@ -20,12 +20,12 @@ use Rattle.response.specs.Rounding.{nearest, rounded}
 use Rattle.response.specs.Calls.{sampleOut}
 use Rattle.response.proofs.Nearest.{near-nearest}
 use Rattle.response.proofs.Register.{response-bound}
-use Rattle.campaign.specs.Record.{unseen, standing, overloaded, dead, withdrawn, state, daysIn, slot, free, sample}
+use Rattle.records.specs.Record.{unseen, standing, overloaded, dead, withdrawn, state, daysIn, slot, free, sample}
 use Rattle.campaign.specs.Calls.{worked, divisor, meanAt, extremesOf}
-use Rattle.campaign.specs.declared.Campaign.{Campaign}
-use Rattle.campaign.proofs.Tests.{inside-size}
-use Rattle.campaign.proofs.Holding.{Filed, Together}
-use Rattle.campaign.proofs.Tallying.{used-standing, standing-most}
+use Rattle.records.specs.declared.Campaign.{Campaign}
+use Rattle.records.proofs.Tests.{inside-size}
+use Rattle.records.proofs.Holding.{Filed, Together}
+use Rattle.records.proofs.Tallying.{used-standing, standing-most}
 
 -- ---- counts
 

@@ -22,11 +22,11 @@ use Rattle.sums.proofs.Diff.{parts, diffs}
 use Rattle.sums.proofs.Everywhere.{every-at, every-all}
 use Rattle.sums.proofs.Seek.{First, seek-first}
 use Rattle.register.specs.Register.{P}
-use Rattle.campaign.specs.Record.{standing, daysIn}
+use Rattle.records.specs.Record.{standing, daysIn}
 use Rattle.campaign.specs.Calls.{worked, divisor, largestAt, level}
-use Rattle.campaign.specs.declared.Campaign.{Campaign}
-use Rattle.campaign.proofs.Tests.{le-is, leZ-refl, leZ-trans, leZ-turn}
-use Rattle.campaign.proofs.Holding.{Together}
+use Rattle.records.specs.declared.Campaign.{Campaign}
+use Rattle.records.proofs.Tests.{le-is, leZ-refl, leZ-trans, leZ-turn}
+use Rattle.records.proofs.Holding.{Together}
 use Rattle.campaign.proofs.Bounds.{divisor-small, worked-small}
 
 -- ---- the first place of the largest

@@ -1,27 +1,73 @@
 -- What the checks of a call have shown where none refuses. Assumes nothing.
-use mathlib.Core.Path.{_≡_}
-use mathlib.Core.Bool.{false, _||_}
+use mathlib.Core.Path.{_≡_, sym, ap, _∙_}
+use mathlib.Core.Bool.{false, cond, _||_}
 use mathlib.Core.List.{List}
-use Prim.Native.Nat.{ℕ, _+_, _*_, _^_, _≤_, _<_}
+use Prim.Native.Nat.{ℕ, _+_, _-_, _*_, _^_, _≤_, _<_}
 use native.Mathlib.Nat.{mul-le-mul-right, suc-mul}
+use native.Mathlib.Decide.{decLt}
 use native.Mathlib.Omega.{arith}
 use borrow.Author.Tests.{ltb-false, eqb-true, eqb-false, not-false}
-use lib.Dec.{ltb}
-use lib.IntN.{ℤ, natAbs}
+use lib.Dec.{eqb, ltb}
+use lib.IntN.{ℤ, pos, natAbs}
 use lib.ListN.{length}
-use Rattle.sums.specs.Lists.{at}
+use Rattle.sums.specs.Lists.{at, many}
 use Rattle.sums.specs.Refusals.{first}
-use Rattle.sums.proofs.First.{passes, or-false}
-use Rattle.register.specs.Register.{P}
+use Rattle.sums.proofs.First.{passes, accepts, or-false}
+use Rattle.sums.proofs.Seek.{First, seek-first}
+use Rattle.sums.proofs.Sum.{sum-ext, sum-one}
+use Rattle.register.specs.Register.{P, Accepted}
+use Rattle.register.specs.Calls.{tapsChecks, tapsAnswer}
+use Rattle.register.proofs.Judged.{accepted-exactly}
 use Rattle.register.proofs.Word.{small}
 use Rattle.response.specs.Calls.{workShort}
-use Rattle.campaign.specs.Record.{standing, state, daysIn}
-use Rattle.campaign.specs.Calls.{enterChecks, withdrawChecks, slotOfDay, responseChecks, summaryChecks}
-use Rattle.campaign.specs.declared.Campaign.{Campaign}
+use Rattle.records.specs.Record.{standing, state, daysIn, slot, free}
+use Rattle.records.specs.declared.Campaign.{Campaign}
+use Rattle.records.proofs.Holding.{Filed, Together, holds-together}
+use Rattle.records.proofs.Refiling.{Day, many-none}
+use Rattle.records.proofs.Tallying.{used-standing}
+use Rattle.campaign.specs.Calls.{dayOut, startChecks, enterChecks, withdrawChecks, lowestFree, slotOfDay, responseChecks, summaryChecks}
 use Rattle.campaign.proofs.Bounds.{sum-small}
-use Rattle.campaign.proofs.Holding.{Together, holds-together}
-use Rattle.campaign.proofs.Refiling.{Day}
-use Rattle.campaign.proofs.Steps.{in-day, slot-of-day}
+
+pub in-day : (d : ℕ) → dayOut d ≡ false → Day d
+in-day d h = let two = or-false (ltb d 1) (ltb 366 d) h in record { first = ltb-false d 1 (two .0); last = ltb-false 366 d (two .1) }
+
+-- ---- a slot that is sought
+
+module _ (c : Campaign) (f : Filed c) where
+  -- where fewer than C days stand, a slot is free
+  pub lowest-free : (daysIn c standing ≡ c .slots → ⊥) → (lowestFree c < c .slots) × (slot c (lowestFree c) ≡ 0)
+  lowest-free n = elim (decLt (lowestFree c) (c .slots)) [
+    | yes l ↦ (l, eqb-true (slot c (lowestFree c)) 0 (g .here (omega arith)))
+    | no l ↦ absurd (n (full (omega (arith, g .to))))
+  ]
+    where
+      g : First (free c) (c .slots) 0 (lowestFree c)
+      g = seek-first (free c) (c .slots) 0
+
+      full : lowestFree c ≡ c .slots → daysIn c standing ≡ c .slots
+      full e =
+          ap natAbs
+          (sym (used-standing c f)
+          ∙ sum-ext (c .slots) (λ s l. ap (λ b. cond b (pos 0) (pos 1)) (g .before s (omega arith) (omega arith)))
+          ∙ sum-one (c .slots))
+
+  -- a standing day has its slot
+  pub slot-of-day : (d : ℕ) → Day d → state c d ≡ standing → (slotOfDay c d < c .slots) × (slot c (slotOfDay c d) ≡ d)
+  slot-of-day d r e = elim (decLt (slotOfDay c d) (c .slots)) [
+    | yes l ↦ (l, eqb-true (slot c (slotOfDay c d)) d (g .here (omega arith)))
+    | no l ↦ absurd (none (omega (arith, g .to)))
+  ]
+    where
+      g : First (λ s. eqb (slot c s) d) (c .slots) 0 (slotOfDay c d)
+      g = seek-first (λ s. eqb (slot c s) d) (c .slots) 0
+
+      one : many (c .slots) (λ s. eqb (slot c s) d) ≡ 1
+      one =
+          let x : d - 1 + 1 ≡ d = omega (arith, r .first) in
+          ap (λ n. many (c .slots) (λ s. eqb (slot c s) n)) (sym x) ∙ f .one (d - 1) (omega (arith, r .first, r .last)) (ap (state c) x ∙ e)
+
+      none : slotOfDay c d ≡ c .slots → ⊥
+      none q = omega (arith, one, many-none (c .slots) (λ s. eqb (slot c s) d) (λ s l. g .before s (omega arith) (omega arith)))
 
 -- ---- a record that holds together, and one of its slots
 
@@ -36,6 +82,29 @@ module _ {c : Campaign} {store sums : List ℤ} (t : Together c store sums) wher
   sums-small j l = omega (arith, sum-small c store sums t j l)
 
 -- ---- no check refuses
+
+-- what an accepted start has shown
+pub record Begins (N taps C : ℕ) (store sums : List ℤ) : Type 0 where
+  pub accepted : Accepted N taps
+  pub least : 1 ≤ C
+  pub most : C ≤ 64
+  pub store-long : C * P N ≤ length store
+  pub sums-long : P N ≤ length sums
+
+-- a start that no check refuses
+pub begins : (N taps C : ℕ) (store sums : List ℤ) → first (startChecks N taps C store sums) ≡ 0 → Begins N taps C store sums
+unfolding tapsAnswer
+begins N taps C store sums z =
+    let p = passes (startChecks N taps C store sums) tt z in
+    let nine = or-false (ltb C 1) (ltb 64 C) (p .1 .1 .1 .1 .0) in
+    let six = or-false (ltb (length store) (C * P N)) (ltb (length sums) (P N)) (p .1 .1 .1 .1 .1 .0) in
+    record {
+      accepted = accepted-exactly N taps .0 (accepts (tapsChecks N taps) (p .0, (p .1 .0, (p .1 .1 .0, (p .1 .1 .1 .0, tt)))));
+      least = ltb-false C 1 (nine .0);
+      most = ltb-false 64 C (nine .1);
+      store-long = ltb-false (length store) (C * P N) (six .0);
+      sums-long = ltb-false (length sums) (P N) (six .1);
+    }
 
 pub record Withdraws (c : Campaign) (store sums : List ℤ) (d : ℕ) : Type 0 where
   pub whole : Together c store sums

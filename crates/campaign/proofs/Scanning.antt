@@ -12,7 +12,7 @@ use Rattle.sums.proofs.Diff.{up, down, parts, diffs}
 use Rattle.sums.proofs.Everywhere.{every-at, every-all}
 use Rattle.sums.proofs.Seek.{First, seek-first, first-unique}
 use Rattle.campaign.specs.Calls.{largestAt}
-use Rattle.campaign.proofs.Tests.{leZ-refl, leZ-trans, leZ-turn}
+use Rattle.records.proofs.Tests.{leZ-refl, leZ-trans, leZ-turn}
 
 module _ (g : ℤ → ℤ) (r : ℕ → ℤ) (n : ℕ) where
   -- z is r at the first of the places from k on at which g of it is largest

@@ -15,8 +15,8 @@ use Rattle.register.specs.Calls.{tapsChecks}
 use Rattle.response.specs.Response.{response}
 use Rattle.response.specs.Rounding.{rounded}
 use Rattle.response.specs.Calls.{lengthOff, someOut, workShort, clearedWide, clearedTags}
-use Rattle.campaign.specs.Record.{standing, overloaded, dead, withdrawn, unseen, stands, daysIn, slot, free, base, sample, eqZ, together}
-use Rattle.campaign.specs.declared.Campaign.{Campaign}
+use Rattle.records.specs.Record.{standing, overloaded, dead, withdrawn, unseen, stands, daysIn, slot, free, base, sample, eqZ, together, fresh, marked, filed}
+use Rattle.records.specs.declared.Campaign.{Campaign}
 use Rattle.campaign.specs.declared.Started.{Started}
 use Rattle.campaign.specs.declared.Rail.{Rail}
 use Rattle.campaign.specs.declared.Rail.the-variants as scan
@@ -52,10 +52,6 @@ abbrev pub startChecks : ℕ → ℕ → ℕ → List ℤ → List ℤ → List 
 startChecks N taps C store sums =
     tapsChecks N taps ++ (9, slotsOut C) ∷ (6, ltb (length store) (C * P N) || ltb (length sums) (P N)) ∷ []
 
--- every day unseen, every slot free
-abbrev pub fresh : ℕ → ℕ → ℕ → Campaign
-fresh N taps C = record { order = N; taps = taps; slots = C; days = replicate 366 unseen; table = replicate 64 0 }
-
 unfoldable pub startOutcome : Campaign → ℕ → ℕ → ℕ → List ℤ → List ℤ → Started × List ℤ × List ℤ
 startOutcome c N taps C store sums =
     outcome (startChecks N taps C store sums) (λ n. (record { answer = n; campaign = c }, store, sums)) (
@@ -83,14 +79,6 @@ railOf y = cond (ltb (railPlace y) (length y)) (scan.First (railPlace y)) scan.C
 -- all samples equal
 abbrev pub still : List ℤ → Bool
 still y = every (length y) (λ j. eqZ (at y j) (at y 0))
-
--- day d in the state q
-abbrev pub marked : Campaign → ℕ → ℕ → Campaign
-marked c d q = record { order = c .order; taps = c .taps; slots = c .slots; days = set (c .days) (d - 1) q; table = c .table }
-
--- and slot s with the day t
-abbrev pub filed : Campaign → ℕ → ℕ → ℕ → ℕ → Campaign
-filed c d q s t = record { order = c .order; taps = c .taps; slots = c .slots; days = set (c .days) (d - 1) q; table = set (c .table) s t }
 
 abbrev pub entered : Campaign → ℕ → Verdict → Entered
 entered c d v = record { entry = record { day = d; verdict = v }; campaign = c }

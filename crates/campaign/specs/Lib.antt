@@ -1,5 +1,2 @@
--- What a reader must believe of a campaign.
-pub mod Record
+-- What a reader must believe of a campaign's calls.
 pub mod Calls
-pub mod Run
-pub mod Blocks

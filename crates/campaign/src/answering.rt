@@ -1,8 +1,8 @@
 // The answer of response.
-use crate::Campaign;
-use crate::reread::holds;
 use crate::rooms::answer_short;
-use crate::tables::days_in;
+use records::Campaign;
+use records::reread::holds;
+use records::tables::days_in;
 use register::shift::full_period;
 use response::rounding::write_means;
 use response::wide::turn_wide;
@@ -13,7 +13,7 @@ ghost use Prim.Native.Nat.{_+_, _*_};
 ghost use lib.Dec.{eqb, ltb};
 ghost use Rattle.sums.specs.Refusals.{first};
 ghost use Rattle.register.specs.Register.{P};
-ghost use Rattle.campaign.specs.Record.{standing, daysIn};
+ghost use Rattle.records.specs.Record.{standing, daysIn};
 ghost use Rattle.campaign.specs.Calls.{apart, responseOutcome};
 
 // The first of 15, 6, 14 that refuses a response into so much room, and 0 where none does.

@@ -1,19 +1,19 @@
 // The answer of enter.
-use crate::Campaign;
 use crate::Entered;
 use crate::Entry;
 use crate::Rail;
 use crate::Verdict;
-use crate::filing::file;
-use crate::filing::mark;
 use crate::judging::all_equal;
 use crate::judging::first_rail;
-use crate::reread::holds;
-use crate::slots::fill_slot;
-use crate::tables::day_stands;
-use crate::tables::days_in;
-use crate::tables::find;
-use crate::tables::outside;
+use records::Campaign;
+use records::filing::file;
+use records::filing::mark;
+use records::reread::holds;
+use records::slots::fill_slot;
+use records::tables::day_stands;
+use records::tables::days_in;
+use records::tables::find;
+use records::tables::outside;
 use register::shift::full_period;
 use response::range::some_out;
 ghost use mathlib.Core.Path.{_≡_};
@@ -23,7 +23,7 @@ ghost use Prim.Native.Nat.{_≤_};
 ghost use lib.Dec.{eqb, ltb};
 ghost use lib.ListN.{length};
 ghost use Rattle.sums.specs.Refusals.{first};
-ghost use Rattle.campaign.specs.Record.{together};
+ghost use Rattle.records.specs.Record.{together};
 ghost use Rattle.campaign.specs.Calls.{enterChecks, stayedOutcome, judgedOutcome, enterOutcome};
 
 // The first of 15, 10, 5, 7, 11 that refuses an entry, and 0 where none does.

@@ -1,33 +1,15 @@
-// A campaign of days: the record, and what each call answers.
+// A campaign of days: what each call answers.
 pub mod answering;
 pub mod counting;
 pub mod entering;
-mod filing;
 mod judging;
-mod reread;
 mod rooms;
 mod sizes;
-mod slots;
 pub mod starting;
-mod stored;
 pub mod summing;
-mod tables;
 pub mod withdrawing;
 
-// A year of nights.
-pub const DAYS: usize = 366;
-
-// The largest number of slots.
-pub const MOST_SLOTS: usize = 64;
-
-// A day's state is 0 unseen, 1 standing, 2 overloaded, 3 dead, 4 withdrawn; a slot holds its day, or 0 where it is free.
-pub struct Campaign {
-    pub order: u32,
-    pub taps: u32,
-    pub slots: u32,
-    pub days: [u8; 366],
-    pub table: [u16; 64],
-}
+use records::Campaign;
 
 // A start's answer, and the record that it made, or that it was given.
 pub struct Started {

@@ -1,10 +1,10 @@
 // The answer of start.
-use crate::Campaign;
 use crate::Started;
-use crate::filing::blank;
 use crate::rooms::memory_short;
-use crate::slots::clear_samples;
-use crate::tables::outside;
+use records::Campaign;
+use records::filing::blank;
+use records::slots::clear_samples;
+use records::tables::outside;
 use register::shift::full_period;
 use register::taps::check_taps;
 use response::clear::clear_wide;

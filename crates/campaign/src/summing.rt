@@ -1,12 +1,12 @@
 // The answer of summary.
-use crate::Campaign;
 use crate::Extremes;
 use crate::Levels;
 use crate::Summary;
-use crate::reread::holds;
 use crate::sizes::level_of;
 use crate::sizes::measure;
-use crate::tables::days_in;
+use records::Campaign;
+use records::reread::holds;
+use records::tables::days_in;
 use register::shift::full_period;
 use response::rooms::work_short;
 ghost use mathlib.Core.Path.{_≡_};

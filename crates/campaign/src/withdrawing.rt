@@ -1,12 +1,12 @@
 // The answer of withdraw.
-use crate::Campaign;
 use crate::Withdrawn;
-use crate::filing::file;
-use crate::reread::holds;
-use crate::slots::empty_slot;
-use crate::tables::day_stands;
-use crate::tables::find;
-use crate::tables::outside;
+use records::Campaign;
+use records::filing::file;
+use records::reread::holds;
+use records::slots::empty_slot;
+use records::tables::day_stands;
+use records::tables::find;
+use records::tables::outside;
 use register::shift::full_period;
 ghost use mathlib.Core.Path.{_≡_};
 ghost use Rattle.sums.specs.Refusals.{first};

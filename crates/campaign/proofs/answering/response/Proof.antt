@@ -12,11 +12,11 @@ use Rattle.sums.proofs.Tables.{at-put, table-ext}
 use Rattle.register.specs.Register.{P}
 use Rattle.response.specs.Calls.{sampleOut, clearedWide, clearedTags}
 use Rattle.response.specs.Rounding.{rounded}
-use Rattle.campaign.specs.Record.{standing}
+use Rattle.records.specs.Record.{standing}
 use Rattle.campaign.specs.Calls.{responseChecks, worked, divisor, meanAt, responseOutcome}
-use Rattle.campaign.specs.declared.Campaign.{Campaign}
+use Rattle.records.specs.declared.Campaign.{Campaign}
 use Rattle.campaign.proofs.Bounds.{divisor-some, divisor-small, sum-small, worked-small, mean-fits}
-use Rattle.campaign.proofs.Loops.{days-in-is}
+use Rattle.records.proofs.Loops.{days-in-is}
 use Rattle.campaign.proofs.Passing.{Answers, answers}
 use Rattle.campaign.proofs.answering.response.Statement.{statement}
 use Rattle.campaign.proofs.answering.response.Tie as tie

@@ -8,9 +8,9 @@ use borrow.Author.Tests.{not-true, not-false, eq-eqb, ne-eqb}
 use lib.Dec.{ltb}
 use Rattle.register.specs.Register.{P}
 use Rattle.register.proofs.Word.{small}
-use Rattle.campaign.specs.Record.{standing, daysIn, together}
-use Rattle.campaign.proofs.Holding.{holds-together}
-use Rattle.campaign.proofs.Loops.{days-in-is}
+use Rattle.records.specs.Record.{standing, daysIn, together}
+use Rattle.records.proofs.Holding.{holds-together}
+use Rattle.records.proofs.Loops.{days-in-is}
 use Rattle.campaign.proofs.answering.response_refusal.Statement.{statement}
 use Rattle.campaign.proofs.answering.response_refusal.Tie as tie
 

@@ -6,9 +6,9 @@ use borrow.Author.Needs.{needs}
 use borrow.Author.Tests.{not-true, not-false}
 use lib.IntN.{ℤ}
 use Rattle.sums.specs.Refusals.{outcome}
-use Rattle.campaign.specs.Record.{together}
+use Rattle.records.specs.Record.{together}
 use Rattle.campaign.specs.Calls.{tally, countsOutcome}
-use Rattle.campaign.specs.declared.Campaign.{Campaign}
+use Rattle.records.specs.declared.Campaign.{Campaign}
 use Rattle.campaign.specs.declared.Counts.the-variants as counts
 use Rattle.campaign.proofs.counting.counts.Statement.{statement}
 use Rattle.campaign.proofs.counting.counts.Tie as tie

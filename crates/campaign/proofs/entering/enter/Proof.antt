@@ -7,7 +7,7 @@ use lib.IntN.{ℤ}
 use Rattle.sums.specs.Refusals.{first}
 use Rattle.sums.proofs.First.{refused-with, accepted-with}
 use Rattle.campaign.specs.Calls.{entered, enterChecks, judgedOutcome, enterOutcome}
-use Rattle.campaign.specs.declared.Campaign.{Campaign}
+use Rattle.records.specs.declared.Campaign.{Campaign}
 use Rattle.campaign.specs.declared.Entered.{Entered}
 use Rattle.campaign.specs.declared.Verdict.the-variants as verdict
 use Rattle.campaign.proofs.entering.enter.Statement.{statement}

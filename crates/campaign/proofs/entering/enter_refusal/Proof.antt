@@ -8,10 +8,10 @@ use lib.ListN.{length}
 use Rattle.sums.specs.Lists.{at}
 use Rattle.register.specs.Register.{P}
 use Rattle.response.specs.Calls.{someOut}
-use Rattle.campaign.specs.Record.{together}
+use Rattle.records.specs.Record.{together}
 use Rattle.campaign.specs.Calls.{dayOut}
-use Rattle.campaign.proofs.Holding.{holds-together}
-use Rattle.campaign.proofs.Steps.{in-day}
+use Rattle.records.proofs.Holding.{holds-together}
+use Rattle.campaign.proofs.Passing.{in-day}
 use Rattle.campaign.proofs.entering.enter_refusal.Statement.{statement}
 use Rattle.campaign.proofs.entering.enter_refusal.Tie as tie
 

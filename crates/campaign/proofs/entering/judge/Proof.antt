@@ -7,15 +7,15 @@ use borrow.Author.Needs.{needs}
 use lib.Dec.{ltb}
 use lib.IntN.{ℤ}
 use lib.ListN.{length}
-use Rattle.campaign.specs.Record.{overloaded, dead}
-use Rattle.campaign.specs.Calls.{railPlace, railOf, still, marked, entered, stayedOutcome, judgedOutcome}
-use Rattle.campaign.specs.declared.Campaign.{Campaign}
+use Rattle.records.specs.Record.{overloaded, dead, marked}
+use Rattle.campaign.specs.Calls.{railPlace, railOf, still, entered, stayedOutcome, judgedOutcome}
+use Rattle.records.specs.declared.Campaign.{Campaign}
 use Rattle.campaign.specs.declared.Entered.{Entered}
 use Rattle.campaign.specs.declared.Rail.{Rail}
 use Rattle.campaign.specs.declared.Rail.the-variants as scan
 use Rattle.campaign.specs.declared.Verdict.the-variants as verdict
 use Rattle.campaign.proofs.Passing.{enters}
-use Rattle.campaign.proofs.Refiling.{Day}
+use Rattle.records.proofs.Refiling.{Day}
 use Rattle.campaign.proofs.entering.judge.Statement.{statement}
 use Rattle.campaign.proofs.entering.judge.Tie as tie
 

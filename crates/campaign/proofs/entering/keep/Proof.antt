@@ -10,14 +10,14 @@ use lib.ListN.{length}
 use Rattle.sums.specs.Lists.{at, table, put, putAt}
 use Rattle.sums.specs.Refusals.{outcome}
 use Rattle.register.specs.Register.{P}
-use Rattle.campaign.specs.Record.{standing, daysIn}
-use Rattle.campaign.specs.Calls.{filed, entered, lowestFree, keptOutcome, stayedOutcome}
-use Rattle.campaign.specs.declared.Campaign.{Campaign}
+use Rattle.records.specs.Record.{standing, daysIn, filed}
+use Rattle.campaign.specs.Calls.{entered, lowestFree, keptOutcome, stayedOutcome}
+use Rattle.records.specs.declared.Campaign.{Campaign}
 use Rattle.campaign.specs.declared.Entered.{Entered}
 use Rattle.campaign.specs.declared.Verdict.the-variants as verdict
-use Rattle.campaign.proofs.Loops.{days-in-is}
+use Rattle.records.proofs.Loops.{days-in-is}
 use Rattle.campaign.proofs.Passing.{Enters, enters, period-small, slot-fits, sums-small}
-use Rattle.campaign.proofs.Steps.{lowest-free}
+use Rattle.campaign.proofs.Passing.{lowest-free}
 use Rattle.campaign.proofs.entering.keep.Statement.{statement}
 use Rattle.campaign.proofs.entering.keep.Tie as tie
 

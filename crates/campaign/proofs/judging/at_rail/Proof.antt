@@ -4,7 +4,7 @@ use native.Mathlib.Omega.{arith}
 use borrow.Author.Tests.{eq-eqb, ne-eqb}
 use lib.IntN.{pos, negsuc}
 use mir.Syntax.{w32}
-use Rattle.campaign.proofs.Rows.{bits-test}
+use Rattle.records.proofs.Rows.{bits-test}
 use Rattle.campaign.proofs.judging.at_rail.Statement.{statement}
 use Rattle.campaign.proofs.judging.at_rail.Tie as tie
 

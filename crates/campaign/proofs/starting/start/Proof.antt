@@ -11,10 +11,11 @@ use Rattle.sums.proofs.First.{refused-with, accepted-with}
 use Rattle.register.specs.Register.{P}
 use Rattle.register.proofs.Word.{small}
 use Rattle.response.specs.Calls.{clearedWide}
-use Rattle.campaign.specs.Calls.{startChecks, fresh, startOutcome}
-use Rattle.campaign.specs.declared.Campaign.{Campaign}
+use Rattle.records.specs.Record.{fresh}
+use Rattle.campaign.specs.Calls.{startChecks, startOutcome}
+use Rattle.records.specs.declared.Campaign.{Campaign}
 use Rattle.campaign.specs.declared.Started.{Started}
-use Rattle.campaign.proofs.Begun.{Begins, begins}
+use Rattle.campaign.proofs.Passing.{Begins, begins}
 use Rattle.campaign.proofs.starting.start.Statement.{statement}
 use Rattle.campaign.proofs.starting.start.Tie as tie
 

@@ -12,15 +12,15 @@ use Rattle.sums.specs.Refusals.{first}
 use Rattle.sums.proofs.First.{refused-with, accepted-with}
 use Rattle.register.specs.Register.{P}
 use Rattle.response.specs.Calls.{clearedWide, clearedTags}
-use Rattle.campaign.specs.Record.{standing, daysIn}
+use Rattle.records.specs.Record.{standing, daysIn}
 use Rattle.campaign.specs.Calls.{summaryChecks, worked, divisor, level, levelsOf, summaryOutcome}
-use Rattle.campaign.specs.declared.Campaign.{Campaign}
+use Rattle.records.specs.declared.Campaign.{Campaign}
 use Rattle.campaign.specs.declared.Extremes.{Extremes}
 use Rattle.campaign.specs.declared.Levels.{Levels}
 use Rattle.campaign.specs.declared.Summary.{Summary}
 use Rattle.campaign.specs.declared.Summary.the-variants as summary
 use Rattle.campaign.proofs.Bounds.{divisor-some, divisor-small, sum-small, extremes-small}
-use Rattle.campaign.proofs.Loops.{days-in-is}
+use Rattle.records.proofs.Loops.{days-in-is}
 use Rattle.campaign.proofs.Passing.{Sums, summed}
 use Rattle.campaign.proofs.summing.summary.Statement.{statement}
 use Rattle.campaign.proofs.summing.summary.Tie as tie

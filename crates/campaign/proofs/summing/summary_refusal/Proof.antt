@@ -6,8 +6,8 @@ use native.Mathlib.Omega.{arith}
 use borrow.Author.Needs.{needs}
 use borrow.Author.Tests.{not-true, not-false}
 use Rattle.register.proofs.Word.{small}
-use Rattle.campaign.specs.Record.{together}
-use Rattle.campaign.proofs.Holding.{holds-together}
+use Rattle.records.specs.Record.{together}
+use Rattle.records.proofs.Holding.{holds-together}
 use Rattle.campaign.proofs.summing.summary_refusal.Statement.{statement}
 use Rattle.campaign.proofs.summing.summary_refusal.Tie as tie
 

@@ -9,9 +9,9 @@ use Rattle.sums.specs.Lists.{at, table, put, putAt}
 use Rattle.sums.specs.Refusals.{first}
 use Rattle.sums.proofs.First.{refused-with, accepted-with}
 use Rattle.register.specs.Register.{P}
-use Rattle.campaign.specs.Record.{withdrawn}
-use Rattle.campaign.specs.Calls.{filed, slotOfDay, withdrawChecks, withdrawOutcome}
-use Rattle.campaign.specs.declared.Campaign.{Campaign}
+use Rattle.records.specs.Record.{withdrawn, filed}
+use Rattle.campaign.specs.Calls.{slotOfDay, withdrawChecks, withdrawOutcome}
+use Rattle.records.specs.declared.Campaign.{Campaign}
 use Rattle.campaign.specs.declared.Withdrawn.{Withdrawn}
 use Rattle.campaign.proofs.Passing.{Withdraws, withdraws, period-small, slot-fits, sums-small}
 use Rattle.campaign.proofs.withdrawing.withdraw.Statement.{statement}

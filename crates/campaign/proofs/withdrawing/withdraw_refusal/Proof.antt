@@ -3,9 +3,9 @@ use mathlib.Core.Path.{_≡_, sym, _∙_}
 use mathlib.Core.Bool.{true, false}
 use borrow.Author.Needs.{needs}
 use borrow.Author.Tests.{not-true, not-false}
-use Rattle.campaign.specs.Record.{together}
+use Rattle.records.specs.Record.{together}
 use Rattle.campaign.specs.Calls.{dayOut}
-use Rattle.campaign.proofs.Steps.{in-day}
+use Rattle.campaign.proofs.Passing.{in-day}
 use Rattle.campaign.proofs.withdrawing.withdraw_refusal.Statement.{statement}
 use Rattle.campaign.proofs.withdrawing.withdraw_refusal.Tie as tie
 

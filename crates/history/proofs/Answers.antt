@@ -1,0 +1,154 @@
+-- Where the record holds together no call answers 15, and a response with room enough and a day standing is accepted. Assumes nothing.
+use mathlib.Core.Path.{_≡_, refl, sym, ap, _∙_}
+use mathlib.Core.Bool.{Bool, true, false, cond, not, _&&_, _||_}
+use mathlib.Core.List.{List, [], _∷_}
+use Prim.Native.Nat.{ℕ, _+_, _*_, _≤_}
+use native.Mathlib.Omega.{arith}
+use borrow.Author.Tests.{le-ltb, ne-eqb, eqb-false}
+use lib.Dec.{T, eqb, ltb}
+use lib.IntN.{ℤ}
+use lib.ListN.{length}
+use Rattle.sums.specs.Lists.{table, put}
+use Rattle.sums.specs.Refusals.{first, outcome}
+use Rattle.sums.proofs.First.{accepts}
+use Rattle.register.specs.Register.{P}
+use Rattle.response.specs.Calls.{clearedWide, clearedTags}
+use Rattle.records.specs.Record.{standing, overloaded, dead, daysIn, together, marked}
+use Rattle.campaign.specs.Calls.{enterChecks, withdrawChecks, responseChecks, summaryChecks, railPlace, still, entered, keptOutcome, judgedOutcome, withdrawnOutcome, tally, enterOutcome, withdrawOutcome, countsOutcome, responseOutcome, summaryOutcome, worked, meanAt, levelsOf, divisor, verdictNumber, countsNumber, summaryNumber}
+use Rattle.history.specs.Run.{World, Call, enter, withdraw, counts, response, summary, answer}
+use Rattle.records.specs.declared.Campaign.{Campaign}
+use Rattle.campaign.specs.declared.Entered.{Entered}
+use Rattle.campaign.specs.declared.Withdrawn.{Withdrawn}
+use Rattle.campaign.specs.declared.Counts.{Counts}
+use Rattle.campaign.specs.declared.Counts.the-variants as counted
+use Rattle.campaign.specs.declared.Summary.{Summary}
+use Rattle.campaign.specs.declared.Summary.the-variants as summed
+use Rattle.campaign.specs.declared.Verdict.the-variants as verdict
+use Rattle.history.proofs.Steps.{outcome-cases}
+
+-- a list of checks that has not the number n, nor 0
+abbrev lacks : ℕ → List (ℕ × Bool) → Bool
+lacks n [] = not (eqb 0 n)
+lacks n (check ∷ checks) = not (eqb (check .0) n) && lacks n checks
+
+negated : (x : Bool) → T (not x) → x ≡ false
+negated false t = refl
+negated true t = absurd t
+
+T-both : (a b : Bool) → T (a && b) → T a × T b
+T-both true b t = (tt, t)
+T-both false b t = absurd t
+
+not-first : (n : ℕ) (checks : List (ℕ × Bool)) → T (lacks n checks) → first checks ≡ n → ⊥
+not-first n [] t e = eqb-false 0 n (negated (eqb 0 n) t) e
+not-first n (check ∷ checks) t e =
+    let p = T-both (not (eqb (check .0) n)) (lacks n checks) t in
+    go (check .1) (p .0) (λ g. not-first n checks (p .1) g) e
+  where
+    go : (b : Bool) → T (not (eqb (check .0) n)) → (first checks ≡ n → ⊥) → cond b (check .0) (first checks) ≡ n → ⊥
+    go true p r e = eqb-false (check .0) n (negated (eqb (check .0) n) p) e
+    go false p r e = r e
+
+-- what an accepted response, and a summary of standing days, hand back
+abbrev pub responded : Campaign → List ℤ → List ℤ → List ℤ → List ℤ → List ℕ → ℕ × List ℤ × List ℤ × List ℤ × List ℕ
+responded c sums r mean room tags = (
+  0,
+  put (table (P (c .order)) (worked c sums)) r,
+  put (table (P (c .order)) (meanAt c sums)) mean,
+  clearedWide (P (c .order) + 1) room,
+  clearedTags (2 * P (c .order)) tags,
+)
+
+abbrev measured : Campaign → List ℤ → List ℤ → List ℕ → Summary × List ℤ × List ℕ
+measured c sums room tags = (
+  summed.Measured (levelsOf (P (c .order)) (worked c sums) (divisor c)),
+  clearedWide (P (c .order) + 1) room,
+  clearedTags (2 * P (c .order)) tags,
+)
+
+-- the first check is passed, and no other has the number 15
+abbrev tail : List (ℕ × Bool) → List (ℕ × Bool)
+tail [] = []
+tail (check ∷ checks) = checks
+
+abbrev head : List (ℕ × Bool) → Bool
+head [] = false
+head (check ∷ checks) = check .1
+
+not-fifteen : (checks : List (ℕ × Bool)) → head checks ≡ false → T (lacks 15 (tail checks)) → first checks ≡ 15 → ⊥
+not-fifteen [] e t h = omega arith
+not-fifteen (check ∷ checks) e t h = not-first 15 checks t (sym (ap (λ x. cond x (check .0) (first checks)) e) ∙ h)
+
+module _ (w : World) (t : together (w .campaign) (w .store) (w .sums) ≡ true) where
+  judged-answer : (d : ℕ) (y : List ℤ) → verdictNumber (judgedOutcome (w .campaign) (w .store) (w .sums) d y .0 .entry .verdict) ≡ 15 → ⊥
+  judged-answer d y = by-rail (ltb (railPlace y) (length y)) (still y)
+    where
+      over : Entered × List ℤ × List ℤ
+      over = (entered (marked (w .campaign) d overloaded) d (verdict.Overloaded (railPlace y)), w .store, w .sums)
+
+      still-dead : Entered × List ℤ × List ℤ
+      still-dead = (entered (marked (w .campaign) d dead) d verdict.Dead, w .store, w .sums)
+
+      filing : Entered × List ℤ × List ℤ
+      filing =
+          outcome ((12, eqb (daysIn (w .campaign) standing) (w .campaign .slots)) ∷ []) (λ m. (entered (w .campaign) d (verdict.Refused m), w .store, w .sums))
+          (keptOutcome (w .campaign) (w .store) (w .sums) d y)
+
+      by-rail : (a b : Bool) → verdictNumber (cond a over (cond b still-dead filing) .0 .entry .verdict) ≡ 15 → ⊥
+      by-rail true b e = omega arith
+      by-rail false true e = omega arith
+      by-rail false false e =
+          outcome-cases ((12, eqb (daysIn (w .campaign) standing) (w .campaign .slots)) ∷ []) tt (λ m. (entered (w .campaign) d (verdict.Refused m), w .store, w .sums))
+          (keptOutcome (w .campaign) (w .store) (w .sums) d y) (λ o. verdictNumber (o .0 .entry .verdict) ≡ 15 → ⊥)
+          (λ n _ h g. not-first 15 ((12, eqb (daysIn (w .campaign) standing) (w .campaign .slots)) ∷ []) tt (h ∙ g)) (λ _ g. omega arith) e
+
+  pub never-fifteen : (call : Call) → answer w call ≡ 15 → ⊥
+  unfolding enterOutcome withdrawOutcome countsOutcome responseOutcome summaryOutcome
+  never-fifteen (enter d y) =
+      outcome-cases {A = Entered × List ℤ × List ℤ} (enterChecks (w .campaign) (w .store) (w .sums) d y) tt
+      (λ n. (entered (w .campaign) d (verdict.Refused n), w .store, w .sums)) (judgedOutcome (w .campaign) (w .store) (w .sums) d y) (λ o. verdictNumber (o .0 .entry .verdict) ≡ 15 → ⊥)
+      (λ n _ h g. not-fifteen (enterChecks (w .campaign) (w .store) (w .sums) d y) (ap not t) tt (h ∙ g)) (λ _. judged-answer d y)
+  never-fifteen (withdraw d) =
+      outcome-cases {A = Withdrawn × List ℤ × List ℤ} (withdrawChecks (w .campaign) (w .store) (w .sums) d) tt
+      (λ n. (record { answer = n; campaign = w .campaign }, w .store, w .sums)) (withdrawnOutcome (w .campaign) (w .store) (w .sums) d) (λ o. o .0 .answer ≡ 15 → ⊥)
+      (λ n _ h g. not-fifteen (withdrawChecks (w .campaign) (w .store) (w .sums) d) (ap not t) tt (h ∙ g)) (λ _ g. omega arith)
+  never-fifteen counts =
+      outcome-cases {A = Counts} ((15, not (together (w .campaign) (w .store) (w .sums))) ∷ []) tt counted.Refused (counted.Counted (tally (w .campaign)))
+      (λ o. countsNumber o ≡ 15 → ⊥) (λ n _ h g. not-fifteen ((15, not (together (w .campaign) (w .store) (w .sums))) ∷ []) (ap not t) tt (h ∙ g)) (λ _ g. omega arith)
+  never-fifteen (response r mean room tags) =
+      outcome-cases {A = ℕ × List ℤ × List ℤ × List ℤ × List ℕ} (responseChecks (w .campaign) (w .store) (w .sums) r mean room tags) tt (λ n. (n, r, mean, room, tags))
+      (responded (w .campaign) (w .sums) r mean room tags) (λ o. o .0 ≡ 15 → ⊥)
+      (λ n _ h g. not-fifteen (responseChecks (w .campaign) (w .store) (w .sums) r mean room tags) (ap not t) tt (h ∙ g)) (λ _ g. omega arith)
+  never-fifteen (summary room tags) =
+      outcome-cases {A = Summary × List ℤ × List ℕ} (summaryChecks (w .campaign) (w .store) (w .sums) room tags) tt (λ n. (summed.Refused n, room, tags))
+      (cond (eqb (daysIn (w .campaign) standing) 0) (summed.Nothing, room, tags) (measured (w .campaign) (w .sums) room tags))
+      (λ o. summaryNumber (o .0) ≡ 15 → ⊥)
+      (λ n _ h g. not-fifteen (summaryChecks (w .campaign) (w .store) (w .sums) room tags) (ap not t) tt (h ∙ g)) (λ _. either (eqb (daysIn (w .campaign) standing) 0))
+    where
+      either : (b : Bool) → summaryNumber (cond b (summed.Nothing, room, tags) (measured (w .campaign) (w .sums) room tags) .0) ≡ 15 → ⊥
+      either true g = omega arith
+      either false g = omega arith
+
+-- ---- a response with room enough
+
+pub record RoomFor (N : ℕ) (r mean room : List ℤ) (tags : List ℕ) : Type 0 where
+  pub r-long : P N ≤ length r
+  pub mean-long : P N ≤ length mean
+  pub room-long : P N + 1 ≤ length room
+  pub tags-long : 2 * P N ≤ length tags
+
+pub answers : (c : Campaign) (store sums r mean room : List ℤ) (tags : List ℕ) → together c store sums ≡ true → RoomFor (c .order) r mean room tags
+    → (daysIn c standing ≡ 0 → ⊥) → responseOutcome c store sums r mean room tags ≡ responded c sums r mean room tags
+unfolding responseOutcome
+answers c store sums r mean room tags t long n =
+    rw (accepts (responseChecks c store sums r mean room tags) (
+      ap not t,
+      (
+        room-enough,
+        (ne-eqb (daysIn c standing) 0 n, tt),
+      ),
+    ))
+  where
+    room-enough : ltb (length r) (P (c .order)) || ltb (length mean) (P (c .order)) || (ltb (length room) (P (c .order) + 1) || ltb (length tags) (2 * P (c .order))) ≡ false
+    room-enough =
+        simp (le-ltb (length r) (P (c .order)) (long .r-long), le-ltb (length mean) (P (c .order)) (long .mean-long), le-ltb (length room) (P (c .order) + 1) (long .room-long), le-ltb (length tags) (2 * P (c .order)) (long .tags-long))

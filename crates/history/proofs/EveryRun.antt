@@ -1,0 +1,150 @@
+-- The third demand: after any run of calls each day's state, the sums and the answer are exactly what the history says. For every order,
+-- taps, slot count, lent memory and list of calls `cs`, the latest first, refused calls included, from a start that was accepted. Assumes nothing.
+use mathlib.Core.Path.{_≡_, sym, ap, ap₂, subst, _∙_}
+use mathlib.Core.Bool.{true, cond}
+use mathlib.Core.List.{List}
+use Prim.Native.Nat.{ℕ, suc, _+_, _-_, _*_, _<_}
+use native.Mathlib.Decide.{ℕ-discrete}
+use native.Mathlib.Omega.{arith}
+use borrow.Author.Tests.{eq-eqb, ne-eqb}
+use lib.Dec.{eqb}
+use lib.IntN.{ℤ, pos, _*ℤ_, *ℤ-zero}
+use Rattle.sums.specs.Sum.{sum}
+use Rattle.sums.specs.Lists.{at, many}
+use Rattle.sums.proofs.Everywhere.{many-ext}
+use Rattle.sums.proofs.Sum.{sum-ext, sum-scale}
+use Rattle.sums.proofs.Tables.{at-put}
+use Rattle.register.specs.Register.{P, wave}
+use Rattle.register.proofs.Judged.{generator}
+use Rattle.response.specs.Response.{prediction}
+use Rattle.response.specs.Response as formula
+use Rattle.response.proofs.Linear.{response-ext, response-zero, response-sum}
+use Rattle.response.proofs.Register.{predicted}
+use Rattle.records.specs.Record.{unseen, standing, overloaded, dead, withdrawn, state, stands, daysIn, slot, free, together}
+use Rattle.campaign.specs.Calls.{startOutcome, countsOutcome, responseOutcome, worked}
+use Rattle.history.specs.Run.{World, Call, answer, run, made, heard}
+use Rattle.records.specs.declared.Campaign.{Campaign}
+use Rattle.campaign.specs.declared.Counts.the-variants.{Counted}
+use Rattle.campaign.proofs.Bounds.{counts-total}
+use Rattle.records.proofs.Holding.{holds-together}
+use Rattle.records.proofs.Tallying.{slots-as-days}
+use Rattle.records.proofs.Refiling.{Day, day, many-some}
+use Rattle.history.proofs.Begun.{begun, started}
+use Rattle.history.proofs.History.{SaysRun, says}
+use Rattle.history.proofs.Answers.{never-fifteen, RoomFor, answers}
+
+module _ (c : Campaign) (N taps C : ℕ) (store sums : List ℤ) (accepted : startOutcome c N taps C store sums .0 .answer ≡ 0) (cs : List Call) where
+  -- the world that the start handed back, and the one after the run
+  abbrev pub w₀ : World
+  w₀ = begun N taps C store sums
+
+  abbrev pub w : World
+  w = run w₀ cs
+
+  history : SaysRun (begun N taps C store sums) cs
+  history = says N taps C store sums (started c N taps C store sums accepted .0) cs
+
+  -- ---- 1. The record holds together, so no call of the run answers 15.
+
+  pub holds : together (w .campaign) (w .store) (w .sums) ≡ true
+  holds = holds-together _ _ _ .1 (history .holds)
+
+  pub no-fifteen : (call : Call) → answer w call ≡ 15 → ⊥
+  no-fifteen = never-fifteen w holds
+
+  -- ---- 2. Each day's state is what the last accepted call naming that day made it, or unseen.
+
+  pub each-day : (d : ℕ) → Day d → state (w .campaign) d ≡ made w₀ cs d
+  each-day = history .days
+
+  -- so the counts are those of the history, and total 366
+  pub daysMade : ℕ → ℕ
+  daysMade q = many 366 (λ i. eqb (made w₀ cs (i + 1)) q)
+
+  days-are : (q : ℕ) → daysIn (w .campaign) q ≡ daysMade q
+  unfolding daysMade
+  days-are q = many-ext 366 (λ i l. ap (λ s. eqb s q) (each-day (i + 1) (day i l)))
+
+  pub counts-are : countsOutcome (w .campaign) (w .store) (w .sums)
+      ≡ Counted (record {
+        unseen = daysMade unseen;
+        standing = daysMade standing;
+        overloaded = daysMade overloaded;
+        dead = daysMade dead;
+        withdrawn = daysMade withdrawn;
+      })
+  unfolding countsOutcome
+  counts-are = rw (holds) (rw (days-are unseen, days-are standing, days-are overloaded, days-are dead, days-are withdrawn))
+
+  pub counts-total-366 : daysMade unseen + daysMade standing + daysMade overloaded + daysMade dead + daysMade withdrawn ≡ 366
+  counts-total-366 =
+      rw (← days-are unseen, ← days-are standing, ← days-are overloaded, ← days-are dead, ← days-are withdrawn)
+      (counts-total (w .campaign) (history .holds .filed))
+
+  -- ---- 3. The sums are, place by place, the total of the last recordings accepted for exactly the days then standing.
+
+  pub sums-are : (j : ℕ) → j < P N → at (w .sums) j ≡ sum 366 (λ i. cond (eqb (made w₀ cs (i + 1)) standing) (at (heard w₀ cs (i + 1)) j) (pos 0))
+  sums-are j l =
+      let s = history in
+      let m : j < P (run w₀ cs .campaign .order) = omega (arith, ap P (s .order)) in
+      s .holds .total j m
+      ∙ sum-ext _ (λ k h. by-slot k h m)
+      ∙ slots-as-days (run w₀ cs .campaign) (s .holds .filed) (λ d. at (heard w₀ cs d) j)
+      ∙ sum-ext 366 (λ i h. ap (λ q. cond (eqb q standing) (at (heard w₀ cs (i + 1)) j) (pos 0)) (s .days (i + 1) (day i h)))
+    where
+      by-slot : (k : ℕ) → k < run w₀ cs .campaign .slots → j < P (run w₀ cs .campaign .order)
+          → cond (free (run w₀ cs .campaign) k) (pos 0) (at (run w₀ cs .store) (k * P (run w₀ cs .campaign .order) + j))
+          ≡ cond (free (run w₀ cs .campaign) k) (pos 0) (at (heard w₀ cs (slot (run w₀ cs .campaign) k)) j)
+      by-slot k h m = elim (ℕ-discrete (slot (run w₀ cs .campaign) k) 0) [
+        | yes e ↦ rw (eq-eqb (slot (run w₀ cs .campaign) k) 0 e)
+        | no e ↦ ap (λ z. cond (free (run w₀ cs .campaign) k) (pos 0) z) (history .slot-hears k h e j m)
+      ]
+
+  -- ---- 4. If at least one day stands and each such recording is the circular convolution of a whole-number response with the sequence,
+  -- the response answers 0 and r at every place is exactly (P+1) times the sum of those responses.
+
+  module _ (h : ℕ → ℕ → ℤ)
+      (convolved : (d : ℕ) → Day d → made w₀ cs d ≡ standing → (j : ℕ) → j < P N → at (heard w₀ cs d) j ≡ prediction (P N) (wave N taps) (h d) j) where
+    -- the sum of the responses of the days standing
+    pub total : ℕ → ℤ
+    total k = sum 366 (λ i. cond (eqb (made w₀ cs (i + 1)) standing) (h (i + 1) k) (pos 0))
+
+    one-day : (i k : ℕ) → i < 366 → k < P N
+        → formula.response (P N) (wave N taps) (λ j. cond (eqb (made w₀ cs (i + 1)) standing) (at (heard w₀ cs (i + 1)) j) (pos 0)) k
+        ≡ pos (suc (P N)) *ℤ cond (eqb (made w₀ cs (i + 1)) standing) (h (i + 1) k) (pos 0)
+    one-day i k l m = elim (ℕ-discrete (made w₀ cs (i + 1)) standing) [
+      | yes e ↦ rw (eq-eqb (made w₀ cs (i + 1)) standing e)
+          (response-ext (P N) (wave N taps) (convolved (i + 1) (day i l) e) k
+          ∙ predicted N taps (generator (started c N taps C store sums accepted .0 .accepted)) (h (i + 1)) k m)
+      | no e ↦ rw (ne-eqb (made w₀ cs (i + 1)) standing e) (response-zero (P N) (wave N taps) k ∙ sym (*ℤ-zero (pos (suc (P N)))))
+    ]
+
+    from-sums : (k : ℕ) → k < P N → formula.response (P N) (wave N taps) (at (w .sums)) k ≡ pos (suc (P N)) *ℤ total k
+    unfolding total
+    from-sums k m =
+        response-ext (P N) (wave N taps) sums-are k
+        ∙ response-sum (P N) (wave N taps) 366 (λ i j. cond (eqb (made w₀ cs (i + 1)) standing) (at (heard w₀ cs (i + 1)) j) (pos 0)) k
+        ∙ sum-ext 366 (λ i l. one-day i k l m)
+        ∙ sum-scale 366 (pos (suc (P N))) (λ i. cond (eqb (made w₀ cs (i + 1)) standing) (h (i + 1) k) (pos 0))
+
+    pub recovered : (d : ℕ) → Day d → made w₀ cs d ≡ standing → (r mean room : List ℤ) (tags : List ℕ) → RoomFor N r mean room tags
+        → let o = responseOutcome (w .campaign) (w .store) (w .sums) r mean room tags in
+        (o .0 ≡ 0) × ((k : ℕ) → k < P N → at (o .1) k ≡ pos (suc (P N)) *ℤ total k)
+    recovered d y e r mean room tags long =
+        let s = history in
+        let a = answers (run w₀ cs .campaign) (run w₀ cs .store) (run w₀ cs .sums) r mean room tags holds (subst (λ n. RoomFor n r mean room tags) (sym (s .order)) long) some-day in (
+          ap (λ o. o .0) a,
+          λ k m. ap (λ o. at (o .1) k) a
+              ∙ at-put (P (run w₀ cs .campaign .order)) (worked (run w₀ cs .campaign) (run w₀ cs .sums)) r k (pos 0) (omega (arith, ap P (s .order)))
+              ∙ ap₂ (λ n t. formula.response (P n) (wave n t) (at (run w₀ cs .sums)) k) (s .order) (s .taps)
+              ∙ from-sums k m,
+        )
+      where
+        some-day : daysIn (run w₀ cs .campaign) standing ≡ 0 → ⊥
+        some-day z =
+            let x : d - 1 + 1 ≡ d = omega (arith, y .first) in
+            let v : state (run w₀ cs .campaign) (d - 1 + 1) ≡ standing = ap (state (run w₀ cs .campaign)) x ∙ history .days d y ∙ e in
+            omega (
+              arith,
+              many-some 366 (λ i. stands (run w₀ cs .campaign) (i + 1)) (d - 1) (omega (arith, y .first, y .last)) (eq-eqb (state (run w₀ cs .campaign) (d - 1 + 1)) standing v),
+            )

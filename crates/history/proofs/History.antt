@@ -1,0 +1,226 @@
+-- After any run of calls from an accepted start the record holds together, each day's state is what the history says, and each slot in use
+-- holds the last recording accepted for its day. Assumes nothing.
+use mathlib.Core.Path.{_≡_, refl, sym, ap, _∙_}
+use mathlib.Core.Bool.{Bool, true, false, cond, _&&_}
+use mathlib.Core.List.{List, [], _∷_}
+use Prim.Native.Nat.{ℕ, _≤_, _<_}
+use native.Mathlib.Decide.{ℕ-discrete}
+use native.Mathlib.Omega.{arith}
+use borrow.Author.Tests.{eq-eqb, ne-eqb}
+use lib.Dec.{eqb}
+use lib.IntN.{ℤ, pos, _+ℤ_, _-ℤ_}
+use lib.ListN.{length}
+use Rattle.sums.specs.Lists.{at, table, put, putAt}
+use Rattle.sums.proofs.Tables.{length-table}
+use Rattle.register.specs.Register.{P}
+use Rattle.records.specs.Record.{standing, withdrawn, state, slot, base, sample, inside, together, marked, filed}
+use Rattle.campaign.specs.Calls.{enterOutcome, withdrawOutcome}
+use Rattle.history.specs.Run.{World, Call, enter, withdraw, counts, response, summary, after, answer, accepted, run, names, makes, made, recording, heard}
+use Rattle.records.specs.declared.Campaign.{Campaign}
+use Rattle.records.proofs.Holding.{Together, holds-together}
+use Rattle.records.proofs.Tallying.{no-slot}
+use Rattle.records.proofs.Refiling.{Sized, Day, sized-filed, sized-marked, state-same, state-other, slot-same, slot-other}
+use Rattle.history.proofs.Memory.{sample-same, sample-other, together-kept, together-withdrawn, together-marked}
+use Rattle.campaign.proofs.Passing.{Begins}
+use Rattle.history.proofs.Begun.{begun, begun-sized, begun-state, begun-slot, begun-together}
+use Rattle.history.proofs.Steps.{Entering, entering, Withdrawing, withdrawing}
+use Rattle.history.proofs.Steps as steps
+
+-- a record and its memory that say what a history says, of the campaign c₀
+pub record Says (c₀ c : Campaign) (store sums : List ℤ) (states : ℕ → ℕ) (hears : ℕ → List ℤ) : Type 0 where
+  pub order : c .order ≡ c₀ .order
+  pub taps : c .taps ≡ c₀ .taps
+  pub slots : c .slots ≡ c₀ .slots
+  pub sized : Sized c
+  pub holds : Together c store sums
+  pub days : (d : ℕ) → Day d → state c d ≡ states d
+  pub slot-hears : (s : ℕ) → s < c .slots → (slot c s ≡ 0 → ⊥) → (j : ℕ) → j < P (c .order) → sample c store s j ≡ at (hears (slot c s)) j
+
+-- only the days of the year count
+says-ext : {c₀ c : Campaign} {store sums : List ℤ} {f g : ℕ → ℕ} {h k : ℕ → List ℤ} → ((d : ℕ) → f d ≡ g d) → ((d : ℕ) → h d ≡ k d)
+    → Says c₀ c store sums f h → Says c₀ c store sums g k
+says-ext {c = c} e q s =
+    record {
+      order = s .order;
+      taps = s .taps;
+      slots = s .slots;
+      sized = s .sized;
+      holds = s .holds;
+      days = λ d r. s .days d r ∙ e d;
+      slot-hears = λ i l u j m. s .slot-hears i l u j m ∙ ap (λ y. at y j) (q (slot c i));
+    }
+
+-- a history of which day d is changed
+abbrev changed : {A : Type 0} → ℕ → A → (ℕ → A) → ℕ → A
+changed d v f e = cond (eqb d e) v (f e)
+
+changed-same : {A : Type 0} (d : ℕ) (v : A) (f : ℕ → A) → changed d v f d ≡ v
+changed-same d v f = ap (λ b. cond b v (f d)) (eq-eqb d d refl)
+
+changed-other : {A : Type 0} (d e : ℕ) (v : A) (f : ℕ → A) → (e ≡ d → ⊥) → changed d v f e ≡ f e
+changed-other d e v f n = ap (λ b. cond b v (f e)) (ne-eqb d e (λ x. n (sym x)))
+
+module _ {c₀ c : Campaign} {store sums : List ℤ} {f : ℕ → ℕ} {h : ℕ → List ℤ} (s : Says c₀ c store sums f h) where
+  some : (i : ℕ) → i < c .slots → (slot c i ≡ 0 → ⊥) → Day (slot c i)
+  some i l u = record { first = above (slot c i) u; last = s .holds .filed .named i l u .0 }
+    where
+      above : (n : ℕ) → (n ≡ 0 → ⊥) → 1 ≤ n
+      above n x = omega arith
+
+  -- set aside
+  says-aside : (d q : ℕ) (y : List ℤ) → Day d → (state c d ≡ standing → ⊥) → (q ≡ standing → ⊥) → q ≤ withdrawn
+      → Says c₀ (marked c d q) store sums (changed d q f) (changed d y h)
+  says-aside d q y r n a b =
+      record {
+        order = s .order;
+        taps = s .taps;
+        slots = s .slots;
+        sized = sized-marked c (s .sized) d q r;
+        holds = together-marked c store sums (s .sized) d q r (s .holds) n a b;
+        days = λ e p. elim (ℕ-discrete e d) [
+          | yes x ↦ ap (state (marked c d q)) x ∙ state-same c (s .sized) d q r 0 (slot c 0) ∙ sym (ap (changed d q f) x ∙ changed-same d q f)
+          | no x ↦ state-other c (s .sized) d q r 0 (slot c 0) e p x ∙ s .days e p ∙ sym (changed-other d e q f x)
+        ];
+        slot-hears = λ i l u j m. s .slot-hears i l u j m
+            ∙ ap (λ z. at z j) (sym (changed-other d (slot c i) y h (λ x. no-slot c (s .holds .filed) d i (r .first) n l x)));
+      }
+
+  -- kept
+  says-kept : (d k : ℕ) (y : List ℤ) → Day d → (state c d ≡ standing → ⊥) → k < c .slots → slot c k ≡ 0 → length y ≡ P (c .order)
+      → ((j : ℕ) → j < P (c .order) → inside (at y j) ≡ true)
+      → Says c₀ (filed c d standing k d) (putAt (base c k) y store) (put (table (P (c .order)) (λ j. at sums j +ℤ at y j)) sums) (changed d standing f) (changed d y h)
+  says-kept d k y r n l e long good =
+      record {
+        order = s .order;
+        taps = s .taps;
+        slots = s .slots;
+        sized = sized-filed c (s .sized) d standing r k d;
+        holds = together-kept c store sums (s .sized) d k r (s .holds) l e n y long good;
+        days = λ g p. elim (ℕ-discrete g d) [
+          | yes x ↦ ap (state (filed c d standing k d)) x ∙ state-same c (s .sized) d standing r k d ∙ sym (ap (changed d standing f) x ∙ changed-same d standing f)
+          | no x ↦ state-other c (s .sized) d standing r k d g p x ∙ s .days g p ∙ sym (changed-other d g standing f x)
+        ];
+        slot-hears = λ i m u j o. elim (ℕ-discrete i k) [
+          | yes x ↦
+              ap (λ t. sample c (putAt (base c k) y store) t j) x ∙ sample-same c store y k l (s .holds .store-long) long j o
+              ∙ sym (ap (λ t. at (changed d y h t) j) (ap (slot (filed c d standing k d)) x ∙ slot-same c (s .sized) d standing r k d (omega (arith, s .holds .filed .most)))
+              ∙ ap (λ z. at z j) (changed-same d y h))
+          | no x ↦
+              let q = slot-other c (s .sized) d standing r k d i x in
+              sample-other c store y k l (s .holds .store-long) long i j x o ∙ s .slot-hears i m (λ z. u (q ∙ z)) j o
+              ∙ sym (ap (λ t. at (changed d y h t) j) q ∙ ap (λ z. at z j) (changed-other d (slot c i) y h (λ z. no-slot c (s .holds .filed) d i (r .first) n m z)))
+        ];
+      }
+
+  -- withdrawn
+  says-withdrawn : (d k : ℕ) → Day d → state c d ≡ standing → k < c .slots → slot c k ≡ d
+      → Says c₀ (filed c d withdrawn k 0) (putAt (base c k) (table (P (c .order)) (λ _. pos 0)) store)
+      (put (table (P (c .order)) (λ j. at sums j -ℤ sample c store k j)) sums) (changed d withdrawn f) h
+  says-withdrawn d k r v l e =
+      record {
+        order = s .order;
+        taps = s .taps;
+        slots = s .slots;
+        sized = sized-filed c (s .sized) d withdrawn r k 0;
+        holds = together-withdrawn c store sums (s .sized) d k r (s .holds) l e v;
+        days = λ g p. elim (ℕ-discrete g d) [
+          | yes x ↦ ap (state (filed c d withdrawn k 0)) x ∙ state-same c (s .sized) d withdrawn r k 0 ∙ sym (ap (changed d withdrawn f) x ∙ changed-same d withdrawn f)
+          | no x ↦ state-other c (s .sized) d withdrawn r k 0 g p x ∙ s .days g p ∙ sym (changed-other d g withdrawn f x)
+        ];
+        slot-hears = λ i m u j o. elim (ℕ-discrete i k) [
+          | yes x ↦ absurd (u (ap (slot (filed c d withdrawn k 0)) x ∙ slot-same c (s .sized) d withdrawn r k 0 (omega (arith, s .holds .filed .most))))
+          | no x ↦
+              let q = slot-other c (s .sized) d withdrawn r k 0 i x in
+              sample-other c store (table (P (c .order)) (λ _. pos 0)) k l (s .holds .store-long) (length-table (P (c .order)) (λ _. pos 0)) i j x o
+              ∙ s .slot-hears i m (λ z. u (q ∙ z)) j o ∙ sym (ap (λ t. at (h t) j) q)
+        ];
+      }
+
+-- ---- one call more
+
+if-refused : {A : Type 0} (b a : Bool) (x y : A) → a ≡ false → cond (b && a) x y ≡ y
+if-refused true a x y e = ap (λ z. cond z x y) e
+if-refused false a x y e = refl
+
+if-accepted : {A : Type 0} (b a : Bool) (x y : A) → a ≡ true → cond (b && a) x y ≡ cond b x y
+if-accepted true a x y e = ap (λ z. cond z x y) e
+if-accepted false a x y e = refl
+
+if-alike : {A : Type 0} (b : Bool) (x : A) → cond b x x ≡ x
+if-alike true x = refl
+if-alike false x = refl
+
+-- the world after a run says what its history says
+abbrev pub SaysRun : World → List Call → Type 0
+SaysRun w cs = Says (w .campaign) (run w cs .campaign) (run w cs .store) (run w cs .sums) (made w cs) (heard w cs)
+
+-- a refused call leaves everything
+says-refused : (w : World) (cs : List Call) (call : Call) → SaysRun w cs → accepted (run w cs) call ≡ false → after (run w cs) call ≡ run w cs → SaysRun w (call ∷ cs)
+unfolding run made heard
+says-refused w cs call s a e =
+    rw e
+    (says-ext (λ d. sym (if-refused (names call d) (accepted (run w cs) call) (makes call) (made w cs d) a))
+    (λ d. sym (if-refused (names call d) (accepted (run w cs) call) (recording call (heard w cs d)) (heard w cs d) a)) s)
+
+-- a call that hands no record back names no day
+says-asked : (w : World) (cs : List Call) (call : Call) → SaysRun w cs → ((d : ℕ) → names call d ≡ false) → after (run w cs) call ≡ run w cs → SaysRun w (call ∷ cs)
+unfolding run made heard
+says-asked w cs call s n e =
+    rw e
+    (says-ext (λ d. sym (ap (λ b. cond (b && accepted (run w cs) call) (makes call) (made w cs d)) (n d)))
+    (λ d. sym (ap (λ b. cond (b && accepted (run w cs) call) (recording call (heard w cs d)) (heard w cs d)) (n d))) s)
+
+module _ (w : World) (cs : List Call) (s : SaysRun w cs) where
+  now : World
+  now = run w cs
+
+  holding : together (run w cs .campaign) (run w cs .store) (run w cs .sums) ≡ true
+  holding = holds-together (run w cs .campaign) (run w cs .store) (run w cs .sums) .1 (s .holds)
+
+  says-entered : (d : ℕ) (y : List ℤ) → Entering (run w cs) d y (enterOutcome (run w cs .campaign) (run w cs .store) (run w cs .sums) d y) → SaysRun w (enter d y ∷ cs)
+  unfolding run made heard
+  says-entered d y (steps.refused n e g i) = says-refused w cs (enter d y) s (ne-eqb (answer (run w cs) (enter d y)) 0 n) (rw (e, g, i))
+  says-entered d y (steps.aside q a m n b r v e g i) =
+      rw (e, g, i)
+      (says-ext
+      (λ x. sym (if-accepted (eqb d x) (accepted (run w cs) (enter d y)) (makes (enter d y)) (made w cs x) (eq-eqb (answer (run w cs) (enter d y)) 0 a) ∙ ap (λ z. cond (eqb d x) z (made w cs x)) m))
+      (λ x. sym (if-accepted (eqb d x) (accepted (run w cs) (enter d y)) y (heard w cs x) (eq-eqb (answer (run w cs) (enter d y)) 0 a)))
+      (says-aside s d q y r v n b))
+  says-entered d y (steps.kept k a m r v l f long good e g i) =
+      rw (e, g, i)
+      (says-ext
+      (λ x. sym (if-accepted (eqb d x) (accepted (run w cs) (enter d y)) (makes (enter d y)) (made w cs x) (eq-eqb (answer (run w cs) (enter d y)) 0 a) ∙ ap (λ z. cond (eqb d x) z (made w cs x)) m))
+      (λ x. sym (if-accepted (eqb d x) (accepted (run w cs) (enter d y)) y (heard w cs x) (eq-eqb (answer (run w cs) (enter d y)) 0 a)))
+      (says-kept s d k y r v l f long good))
+
+  says-freed : (d : ℕ) → Withdrawing (run w cs) d (withdrawOutcome (run w cs .campaign) (run w cs .store) (run w cs .sums) d) → SaysRun w (withdraw d ∷ cs)
+  unfolding run made heard
+  says-freed d (steps.refused n e g i) = says-refused w cs (withdraw d) s (ne-eqb (answer (run w cs) (withdraw d)) 0 n) (rw (e, g, i))
+  says-freed d (steps.freed k a r v l f e g i) =
+      rw (e, g, i)
+      (says-ext
+      (λ x. sym (if-accepted (eqb d x) (accepted (run w cs) (withdraw d)) withdrawn (made w cs x) (eq-eqb (answer (run w cs) (withdraw d)) 0 a)))
+      (λ x. sym (if-alike (eqb d x && accepted (run w cs) (withdraw d)) (heard w cs x)))
+      (says-withdrawn s d k r v l f))
+
+  pub says-after : (call : Call) → SaysRun w (call ∷ cs)
+  says-after (enter d y) = says-entered d y (entering (run w cs) d y holding)
+  says-after (withdraw d) = says-freed d (withdrawing (run w cs) d holding)
+  says-after counts = says-asked w cs counts s (λ d. refl) refl
+  says-after (response r mean room tags) = says-asked w cs (response r mean room tags) s (λ d. refl) refl
+  says-after (summary room tags) = says-asked w cs (summary room tags) s (λ d. refl) refl
+
+-- every run
+pub says : (N taps C : ℕ) (store sums : List ℤ) → Begins N taps C store sums → (cs : List Call) → SaysRun (begun N taps C store sums) cs
+unfolding run made heard
+says N taps C store sums b [] =
+    record {
+      order = refl;
+      taps = refl;
+      slots = refl;
+      sized = begun-sized N taps C;
+      holds = begun-together N taps C store sums b;
+      days = λ d r. begun-state N taps C d;
+      slot-hears = λ s l u. absurd (u (begun-slot N taps C s));
+    }
+says N taps C store sums b (call ∷ cs) = says-after (begun N taps C store sums) cs (says N taps C store sums b cs) call

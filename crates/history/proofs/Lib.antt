@@ -1,0 +1,10 @@
+-- The laws of every run of calls.
+pub mod Memory
+pub mod Steps
+pub mod Begun
+pub mod History
+pub mod Answers
+pub mod EveryRun
+pub mod Undone
+pub mod AsIf
+pub mod Numbers

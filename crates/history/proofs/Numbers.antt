@@ -1,0 +1,100 @@
+-- Document 01, "Numbers to hold it to" and the log example, computed from the outcome functions: order 3, taps 3. Assumes nothing.
+use mathlib.Core.Path.{_≡_, refl}
+use mathlib.Core.List.{List, [], _∷_}
+use Prim.Native.Nat.{ℕ}
+use lib.Count.{ones}
+use lib.IntN.{ℤ, pos, negsuc}
+use lib.ListN.{replicate}
+use Rattle.sums.specs.Sum.{sum, total, sign}
+use Rattle.sums.specs.Lists.{seek, some, every, many, table, put, putAt}
+use Rattle.register.specs.Register.{dot, step, window, bit, wave, period}
+use Rattle.register.specs.Calls.{tapsAnswer}
+use Rattle.response.specs.Response as formula
+use Rattle.response.specs.Rounding.{nearest, rounded}
+use Rattle.records.specs.Record.{together, fresh}
+use Rattle.campaign.specs.Calls.{enterOutcome, withdrawOutcome, responseOutcome}
+use Rattle.history.specs.Run.{World, enter, withdraw, response, after, answer, run}
+use Rattle.campaign.specs.declared.Verdict.{Verdict}
+use Rattle.campaign.specs.declared.Verdict.the-variants.{Kept, Overloaded, Dead, Refused}
+
+-- a start of C slots: two, and one
+abbrev of : ℕ → World
+of C = record { campaign = fresh 3 3 C; store = replicate 14 (pos 0); sums = replicate 7 (pos 0) }
+
+abbrev verdict : World → ℕ → List ℤ → Verdict
+verdict w d y = enterOutcome (w .campaign) (w .store) (w .sums) d y .0 .entry .verdict
+
+-- seven samples, the first of them z
+abbrev with : ℤ → List ℤ
+with z = z ∷ replicate 6 (pos 0)
+
+-- ---- means
+
+pub means : (rounded (pos 4) 8 ≡ pos 1) × (rounded (negsuc 3) 8 ≡ negsuc 0) × (rounded (negsuc 9) 8 ≡ negsuc 0)
+unfolding nearest
+means = (refl, refl, refl)
+
+-- ---- samples and days
+
+pub record Entries : Type 0 where
+  pub may-stand : verdict (of 2) 1 (with (pos 8388606)) ≡ Kept 0
+  pub overloads : verdict (of 2) 1 (with (pos 8388607)) ≡ Overloaded 0
+  pub overloads-low : verdict (of 2) 1 (pos 0 ∷ negsuc 8388607 ∷ replicate 5 (pos 0)) ≡ Overloaded 1
+  pub out-of-range : verdict (of 2) 1 (with (pos 8388608)) ≡ Refused 7
+  pub day-0 : verdict (of 2) 0 (with (pos 1)) ≡ Refused 10
+  pub day-367 : verdict (of 2) 367 (with (pos 1)) ≡ Refused 10
+  pub day-366 : verdict (of 2) 366 (with (pos 1)) ≡ Kept 0
+  pub six-samples : verdict (of 2) 1 (replicate 6 (pos 0)) ≡ Refused 5
+  pub again : verdict (after (of 2) (enter 1 (with (pos 1)))) 1 (with (pos 1)) ≡ Refused 11
+  -- a dead day needs no slot when all are used, nor does an overloaded one
+  pub no-slot : verdict (after (of 1) (enter 1 (with (pos 1)))) 2 (with (pos 1)) ≡ Refused 12
+  pub dead-all-used : verdict (after (of 1) (enter 1 (with (pos 1)))) 2 (replicate 7 (pos 5)) ≡ Dead
+  pub loud-all-used : verdict (after (of 1) (enter 1 (with (pos 1)))) 2 (with (pos 8388607)) ≡ Overloaded 0
+
+pub entries : Entries
+unfolding enterOutcome together tapsAnswer period seek some every many total sum table put putAt window step dot ones
+entries =
+    record {
+      may-stand = refl;
+      overloads = refl;
+      overloads-low = refl;
+      out-of-range = refl;
+      day-0 = refl;
+      day-367 = refl;
+      day-366 = refl;
+      six-samples = refl;
+      again = refl;
+      no-slot = refl;
+      dead-all-used = refl;
+      loud-all-used = refl;
+    }
+
+-- ---- the log example
+
+abbrev day-1 : List ℤ
+day-1 = negsuc 0 ∷ negsuc 2 ∷ negsuc 0 ∷ pos 3 ∷ pos 3 ∷ negsuc 2 ∷ pos 1 ∷ []
+
+abbrev day-2 : List ℤ
+day-2 = replicate 7 (pos 5)
+
+abbrev asked : World → ℕ × List ℤ × List ℤ × List ℤ × List ℕ
+asked w = responseOutcome (w .campaign) (w .store) (w .sums) (replicate 7 (pos 9)) (replicate 7 (pos 9)) (replicate 8 (pos 9)) (replicate 14 9)
+
+pub record LogExample : Type 0 where
+  pub kept : verdict (of 2) 1 day-1 ≡ Kept 0
+  pub dead : verdict (run (of 2) (enter 1 day-1 ∷ [])) 2 day-2 ≡ Dead
+  pub response : asked (run (of 2) (enter 2 day-2 ∷ enter 1 day-1 ∷ []))
+      ≡ (
+        0,
+        pos 16 ∷ pos 0 ∷ negsuc 7 ∷ pos 0 ∷ pos 0 ∷ pos 0 ∷ pos 0 ∷ [],
+        pos 2 ∷ pos 0 ∷ negsuc 0 ∷ pos 0 ∷ pos 0 ∷ pos 0 ∷ pos 0 ∷ [],
+        replicate 8 (pos 0),
+        replicate 14 0,
+      )
+  pub withdrawal : answer (run (of 2) (enter 2 day-2 ∷ enter 1 day-1 ∷ [])) (withdraw 1) ≡ 0
+  pub nothing : asked (run (of 2) (withdraw 1 ∷ enter 2 day-2 ∷ enter 1 day-1 ∷ []))
+      ≡ (14, replicate 7 (pos 9), replicate 7 (pos 9), replicate 8 (pos 9), replicate 14 9)
+
+pub log-example : LogExample
+unfolding run enterOutcome withdrawOutcome responseOutcome together tapsAnswer period seek some every many total sum sign table put putAt nearest formula.response formula.correlation wave bit window step dot ones
+log-example = record { kept = refl; dead = refl; response = refl; withdrawal = refl; nothing = refl }

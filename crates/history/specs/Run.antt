@@ -1,0 +1,88 @@
+-- Document 01, "A record holds together when": a run of calls, each given the record that the one before handed back and the same lent
+-- memory, untouched between. Assumes nothing.
+use mathlib.Core.List.{List, [], _∷_}
+use mathlib.Core.Bool.{Bool, false, cond, _&&_}
+use Prim.Native.Nat.{ℕ}
+use lib.Dec.{eqb, ltb}
+use lib.IntN.{ℤ}
+use lib.ListN.{length}
+use Rattle.records.specs.Record.{unseen, standing, overloaded, dead, withdrawn}
+use Rattle.campaign.specs.Calls.{railPlace, still, enterOutcome, withdrawOutcome, countsOutcome, responseOutcome, summaryOutcome, verdictNumber, countsNumber, summaryNumber}
+use Rattle.records.specs.declared.Campaign.{Campaign}
+
+-- the record and the lent memory that a run is about
+pub record World : Type 0 where
+  pub campaign : Campaign
+  pub store : List ℤ
+  pub sums : List ℤ
+
+-- a call with all its arguments but those
+pub data Call : Type 0 where
+  enter : ℕ → List ℤ → Call
+  withdraw : ℕ → Call
+  counts : Call
+  response : List ℤ → List ℤ → List ℤ → List ℕ → Call
+  summary : List ℤ → List ℕ → Call
+
+-- the world after a call: only an entry and a withdrawal hand a record back
+abbrev pub after : World → Call → World
+after w (enter d y) =
+    let o = enterOutcome (w .campaign) (w .store) (w .sums) d y in
+    record { campaign = o .0 .campaign; store = o .1; sums = o .2 }
+after w (withdraw d) =
+    let o = withdrawOutcome (w .campaign) (w .store) (w .sums) d in
+    record { campaign = o .0 .campaign; store = o .1; sums = o .2 }
+after w counts = w
+after w (response r mean room tags) = w
+after w (summary room tags) = w
+
+-- the number that a call answers: 0 is accepted
+abbrev pub answer : World → Call → ℕ
+answer w (enter d y) = verdictNumber (enterOutcome (w .campaign) (w .store) (w .sums) d y .0 .entry .verdict)
+answer w (withdraw d) = withdrawOutcome (w .campaign) (w .store) (w .sums) d .0 .answer
+answer w counts = countsNumber (countsOutcome (w .campaign) (w .store) (w .sums))
+answer w (response r mean room tags) = responseOutcome (w .campaign) (w .store) (w .sums) r mean room tags .0
+answer w (summary room tags) = summaryNumber (summaryOutcome (w .campaign) (w .store) (w .sums) room tags .0)
+
+abbrev pub accepted : World → Call → Bool
+accepted w c = eqb (answer w c) 0
+
+-- a run of calls, the latest first
+unfoldable pub run : World → List Call → World
+run w [] = w
+run w (c ∷ earlier) = after (run w earlier) c
+
+-- ---- what the history says
+
+-- whether a call names day d
+abbrev pub names : Call → ℕ → Bool
+names (enter e y) d = eqb e d
+names (withdraw e) d = eqb e d
+names counts d = false
+names (response r mean room tags) d = false
+names (summary room tags) d = false
+
+-- what an accepted call makes of the day that it names
+abbrev pub makes : Call → ℕ
+makes (enter d y) = cond (ltb (railPlace y) (length y)) overloaded (cond (still y) dead standing)
+makes (withdraw d) = withdrawn
+makes counts = unseen
+makes (response r mean room tags) = unseen
+makes (summary room tags) = unseen
+
+-- what the last accepted call that names day d made of it, or unseen
+unfoldable pub made : World → List Call → ℕ → ℕ
+made w [] d = unseen
+made w (c ∷ earlier) d = cond (names c d && accepted (run w earlier) c) (makes c) (made w earlier d)
+
+-- the recording of a call, and the last recording accepted for day d
+abbrev pub recording : Call → List ℤ → List ℤ
+recording (enter d y) before = y
+recording (withdraw d) before = before
+recording counts before = before
+recording (response r mean room tags) before = before
+recording (summary room tags) before = before
+
+unfoldable pub heard : World → List Call → ℕ → List ℤ
+heard w [] d = []
+heard w (c ∷ earlier) d = cond (names c d && accepted (run w earlier) c) (recording c (heard w earlier d)) (heard w earlier d)

@@ -1,0 +1,1 @@
+// Every run of a campaign's calls: laws, and no code.

@@ -1,0 +1,244 @@
+-- A record in which one day, and perhaps one slot, is changed: what it says of the others stays, and its slots and days still agree.
+-- Assumes nothing.
+use mathlib.Core.Path.{_≡_, refl, sym, ap, subst, _∙_}
+use mathlib.Core.Bool.{Bool, true, false, cond}
+use Prim.Native.Nat.{ℕ, zero, suc, _+_, _-_, _≤_, _<_}
+use native.Mathlib.Decide.{ℕ-discrete}
+use native.Mathlib.Omega.{arith}
+use borrow.Author.Tests.{eq-eqb, ne-eqb}
+use lib.Dec.{eqb}
+use lib.ListN.{length, length-set}
+use lib.Seq.{getD-set-same, getD-set-other}
+use Rattle.sums.specs.Sum.{total}
+use Rattle.sums.specs.Lists.{many}
+use Rattle.sums.proofs.Sum.{total-changed}
+use Rattle.records.specs.Record.{standing, withdrawn, state, slot, marked, filed}
+use Rattle.records.specs.declared.Campaign.{Campaign}
+use Rattle.records.proofs.Holding.{Filed}
+use Rattle.records.proofs.Tallying.{no-slot}
+
+-- the tables are as long as the paper has them
+pub record Sized (c : Campaign) : Type 0 where
+  pub days : length (c .days) ≡ 366
+  pub table : length (c .table) ≡ 64
+
+-- a day of the year
+pub record Day (d : ℕ) : Type 0 where
+  pub first : 1 ≤ d
+  pub last : d ≤ 366
+
+pub day : (i : ℕ) → i < 366 → Day (i + 1)
+day i l = record { first = omega arith; last = omega arith }
+
+-- ---- what the changed record says
+
+module _ (c : Campaign) (z : Sized c) (d q : ℕ) (r : Day d) where
+  module _ (s t : ℕ) where
+    pub sized-filed : Sized (filed c d q s t)
+    sized-filed = record { days = length-set (c .days) (d - 1) q ∙ z .days; table = length-set (c .table) s t ∙ z .table }
+
+    pub state-same : state (filed c d q s t) d ≡ q
+    state-same = getD-set-same (c .days) (d - 1) q 0 (omega (arith, z .days, r .first, r .last))
+
+    pub state-other : (e : ℕ) → Day e → (e ≡ d → ⊥) → state (filed c d q s t) e ≡ state c e
+    state-other e p n = getD-set-other (c .days) (d - 1) (e - 1) q 0 (λ h. n (omega (arith, p .first, r .first)))
+
+    pub slot-same : s < 64 → slot (filed c d q s t) s ≡ t
+    slot-same h = getD-set-same (c .table) s t 0 (omega (arith, z .table))
+
+    pub slot-other : (k : ℕ) → (k ≡ s → ⊥) → slot (filed c d q s t) k ≡ slot c k
+    slot-other k n = getD-set-other (c .table) s k t 0 n
+
+  pub sized-marked : Sized (marked c d q)
+  sized-marked = record { days = length-set (c .days) (d - 1) q ∙ z .days; table = z .table }
+
+-- ---- a day set aside, or withdrawn, that has no slot
+
+pub marked-filed : (c : Campaign) → Sized c → (d q : ℕ) → Day d → Filed c → (state c d ≡ standing → ⊥) → (q ≡ standing → ⊥) → q ≤ withdrawn
+    → Filed (marked c d q)
+marked-filed c z d q r f n a h =
+    record {
+      accepted = f .accepted;
+      least = f .least;
+      most = f .most;
+      states = λ i l. states i l;
+      past = f .past;
+      named = λ s l u. let m = f .named s l u in (m .0, other (slot c s) (record { first = some (slot c s) u; last = m .0 }) (m .1) ∙ m .1);
+      one = λ i l e. f .one i l (before i l e);
+    }
+  where
+    some : (n : ℕ) → (n ≡ 0 → ⊥) → 1 ≤ n
+    some n h = omega arith
+
+    at : (e : ℕ) → Day e → (e ≡ d → ⊥) → state (marked c d q) e ≡ state c e
+    at e p m = state-other c z d q r 0 (slot c 0) e p m
+
+    here : state (marked c d q) d ≡ q
+    here = state-same c z d q r 0 (slot c 0)
+
+    other : (e : ℕ) → Day e → state c e ≡ standing → state (marked c d q) e ≡ state c e
+    other e p w = at e p (λ x. n (ap (state c) (sym x) ∙ w))
+
+    before : (i : ℕ) → i < 366 → state (marked c d q) (i + 1) ≡ standing → state c (i + 1) ≡ standing
+    before i l e = elim (ℕ-discrete (i + 1) d) [
+      | yes x ↦ absurd (a (sym here ∙ ap (state (marked c d q)) (sym x) ∙ e))
+      | no x ↦ sym (at (i + 1) (day i l) x) ∙ e
+    ]
+
+    states : (i : ℕ) → i < 366 → state (marked c d q) (i + 1) ≤ withdrawn
+    states i l = elim (ℕ-discrete (i + 1) d) [
+      | yes x ↦ subst (λ m. m ≤ withdrawn) (sym (ap (state (marked c d q)) x ∙ here)) h
+      | no x ↦ subst (λ m. m ≤ withdrawn) (sym (at (i + 1) (day i l) x)) (f .states i l)
+    ]
+
+-- ---- a day that takes a free slot
+
+pub many-none : (n : ℕ) (test : ℕ → Bool) → ((i : ℕ) → i < n → test i ≡ false) → many n test ≡ 0
+unfolding many total
+many-none zero test h = refl
+many-none (suc n) test h = rw (h n (omega arith)) (omega (arith, many-none n test (λ i l. h i (omega arith))))
+
+pub many-some : (n : ℕ) (test : ℕ → Bool) (i : ℕ) → i < n → test i ≡ true → 1 ≤ many n test
+unfolding many total
+many-some zero test i l t = absurd (omega arith)
+many-some (suc n) test i l t = elim (ℕ-discrete i n) [
+  | yes e ↦ last (ap test (sym e) ∙ t)
+  | no e ↦ omega (arith, many-some n test i (omega arith) t)
+]
+  where
+    last : test n ≡ true → 1 ≤ total n (λ i. cond (test i) 1 0) + cond (test n) 1 0
+    last u = rw u (omega arith)
+
+-- where it holds once, it holds at one place
+many-one : (n : ℕ) (test : ℕ → Bool) → many n test ≡ 1 → (i j : ℕ) → i < n → j < n → test i ≡ true → test j ≡ true → i ≡ j
+unfolding many total
+many-one zero test h i j a b t u = absurd (omega arith)
+many-one (suc n) test h i j a b t u = elim (ℕ-discrete i n) [
+  | yes e ↦ elim (ℕ-discrete j n) [ yes g ↦ e ∙ sym g | no g ↦ absurd (twice (ap test (sym e) ∙ t) j (omega arith) u) ]
+  | no e ↦ elim (ℕ-discrete j n) [
+    | yes g ↦ absurd (twice (ap test (sym g) ∙ u) i (omega arith) t)
+    | no g ↦ many-one n test (before (many-some n test i (omega arith) t)) i j (omega arith) (omega arith) t u
+  ]
+]
+  where
+    twice : test n ≡ true → (k : ℕ) → k < n → test k ≡ true → ⊥
+    twice v k l w = omega (arith, many-some n test k l w, rw v at h)
+
+    before : 1 ≤ many n test → many n test ≡ 1
+    before l = omega arith
+
+module _ (c : Campaign) (z : Sized c) (d q k t : ℕ) (r : Day d) (f : Filed c) (inside : k < c .slots) where
+  k-small : k < 64
+  k-small = omega (arith, f .most)
+
+  -- the slots that name a day, after the change of slot k
+  recount : (e : ℕ) → many (c .slots) (λ s. eqb (slot (filed c d q k t) s) e) + cond (eqb (slot c k) e) 1 0
+      ≡ many (c .slots) (λ s. eqb (slot c s) e) + cond (eqb t e) 1 0
+  unfolding many
+  recount e =
+      total-changed (c .slots) k (λ s. cond (eqb (slot c s) e) 1 0) (λ s. cond (eqb (slot (filed c d q k t) s) e) 1 0) inside
+      (λ s l n. ap (λ m. cond (eqb m e) 1 0) (slot-other c z d q r k t s n))
+      ∙ ap (λ m. many (c .slots) (λ s. eqb (slot c s) e) + cond (eqb m e) 1 0) (slot-same c z d q r k t k-small)
+
+  -- the state of every day, and every slot past C
+  states : (q ≤ withdrawn) → (i : ℕ) → i < 366 → state (filed c d q k t) (i + 1) ≤ withdrawn
+  states h i l = elim (ℕ-discrete (i + 1) d) [
+    | yes x ↦ subst (λ m. m ≤ withdrawn) (sym (ap (state (filed c d q k t)) x ∙ state-same c z d q r k t)) h
+    | no x ↦ subst (λ m. m ≤ withdrawn) (sym (state-other c z d q r k t (i + 1) (day i l) x)) (f .states i l)
+  ]
+
+  past : (s : ℕ) → s < 64 → c .slots ≤ s → slot (filed c d q k t) s ≡ 0
+  past s l h = slot-other c z d q r k t s (λ e. omega arith) ∙ f .past s l h
+
+  -- another slot that is in use
+  elsewhere : (s : ℕ) → s < c .slots → (s ≡ k → ⊥) → (slot (filed c d q k t) s ≡ 0 → ⊥) → (slot c s ≡ d → ⊥)
+      → (slot (filed c d q k t) s ≤ 366) × (state (filed c d q k t) (slot (filed c d q k t) s) ≡ standing)
+  elsewhere s l n u m =
+      let e = slot-other c z d q r k t s n in
+      let used : slot c s ≡ 0 → ⊥ = λ x. u (e ∙ x) in
+      let p = f .named s l used in
+      let e′ : Day (slot c s) = record { first = some (slot c s) used; last = p .0 } in
+      (subst (λ x. x ≤ 366) (sym e) (p .0), ap (state (filed c d q k t)) e ∙ state-other c z d q r k t (slot c s) e′ m ∙ p .1)
+    where
+      some : (n : ℕ) → (n ≡ 0 → ⊥) → 1 ≤ n
+      some n h = omega arith
+
+  other-count : (e : ℕ) → (slot c k ≡ e → ⊥) → (t ≡ e → ⊥)
+      → many (c .slots) (λ s. eqb (slot (filed c d q k t) s) e) ≡ many (c .slots) (λ s. eqb (slot c s) e)
+  other-count e a b =
+      let m = rw (ne-eqb (slot c k) e a, ne-eqb t e b) at (recount e) in omega arith
+
+-- ---- a day that takes a free slot
+
+pub taken-filed : (c : Campaign) → Sized c → (d k : ℕ) → Day d → Filed c → k < c .slots → slot c k ≡ 0 → (state c d ≡ standing → ⊥)
+    → Filed (filed c d standing k d)
+taken-filed c z d k r f inside e n =
+    record {
+      accepted = f .accepted;
+      least = f .least;
+      most = f .most;
+      states = states c z d standing k d r f inside (omega arith);
+      past = past c z d standing k d r f inside;
+      named = λ s l u. elim (ℕ-discrete s k) [
+        | yes x ↦ here s x
+        | no x ↦ elsewhere c z d standing k d r f inside s l x u (no-slot c f d s (r .first) n l)
+      ];
+      one = λ i l w. elim (ℕ-discrete (i + 1) d) [ yes x ↦ mine i x | no x ↦ others i l x w ];
+    }
+  where
+    small : k < 64
+    small = omega (arith, f .most)
+
+    here : (s : ℕ) → s ≡ k → (slot (filed c d standing k d) s ≤ 366) × (state (filed c d standing k d) (slot (filed c d standing k d) s) ≡ standing)
+    here s x =
+        let g = ap (slot (filed c d standing k d)) x ∙ slot-same c z d standing r k d small in
+        (subst (λ m. m ≤ 366) (sym g) (r .last), ap (state (filed c d standing k d)) g ∙ state-same c z d standing r k d)
+
+    mine : (i : ℕ) → i + 1 ≡ d → many (c .slots) (λ s. eqb (slot (filed c d standing k d) s) (i + 1)) ≡ 1
+    mine i x =
+        let m = rw (ap (λ w. eqb w d) e, ne-eqb 0 d (λ g. omega (arith, r .first)), eq-eqb d d refl) at (recount c z d standing k d r f inside d) in
+        let none = many-none (c .slots) (λ s. eqb (slot c s) d) (λ s l. ne-eqb (slot c s) d (no-slot c f d s (r .first) n l)) in
+        ap (λ w. many (c .slots) (λ s. eqb (slot (filed c d standing k d) s) w)) x ∙ omega arith
+
+    others : (i : ℕ) → i < 366 → (i + 1 ≡ d → ⊥) → state (filed c d standing k d) (i + 1) ≡ standing
+        → many (c .slots) (λ s. eqb (slot (filed c d standing k d) s) (i + 1)) ≡ 1
+    others i l x w =
+        other-count c z d standing k d r f inside (i + 1) (λ g. omega arith) (λ g. x (sym g))
+        ∙ f .one i l (sym (state-other c z d standing r k d (i + 1) (day i l) x) ∙ w)
+
+-- ---- a standing day that gives its slot back
+
+pub slot-unique : (c : Campaign) → Filed c → (d s k : ℕ) → Day d → state c d ≡ standing → s < c .slots → k < c .slots → slot c s ≡ d → slot c k ≡ d → s ≡ k
+slot-unique c f d s k r w a b e g =
+    many-one (c .slots) (λ s. eqb (slot c s) d) once s k a b (eq-eqb (slot c s) d e) (eq-eqb (slot c k) d g)
+  where
+    once : many (c .slots) (λ s. eqb (slot c s) d) ≡ 1
+    once =
+        let x : d - 1 + 1 ≡ d = omega (arith, r .first) in
+        ap (λ n. many (c .slots) (λ s. eqb (slot c s) n)) (sym x) ∙ f .one (d - 1) (omega (arith, r .first, r .last)) (ap (state c) x ∙ w)
+
+pub freed-filed : (c : Campaign) → Sized c → (d k : ℕ) → Day d → Filed c → k < c .slots → slot c k ≡ d → state c d ≡ standing
+    → Filed (filed c d withdrawn k 0)
+freed-filed c z d k r f inside e w =
+    record {
+      accepted = f .accepted;
+      least = f .least;
+      most = f .most;
+      states = states c z d withdrawn k 0 r f inside (omega arith);
+      past = past c z d withdrawn k 0 r f inside;
+      named = λ s l u. elim (ℕ-discrete s k) [
+        | yes x ↦ absurd (u (ap (slot (filed c d withdrawn k 0)) x ∙ slot-same c z d withdrawn r k 0 (omega (arith, f .most))))
+        | no x ↦ elsewhere c z d withdrawn k 0 r f inside s l x u (λ g. x (slot-unique c f d s k r w l inside g e))
+      ];
+      one = λ i l v. elim (ℕ-discrete (i + 1) d) [ yes x ↦ absurd (gone i x v) | no x ↦ others i l x v ];
+    }
+  where
+    gone : (i : ℕ) → i + 1 ≡ d → state (filed c d withdrawn k 0) (i + 1) ≡ standing → ⊥
+    gone i x v =
+        let g : _≡_ {A = ℕ} withdrawn standing = sym (state-same c z d withdrawn r k 0) ∙ ap (state (filed c d withdrawn k 0)) (sym x) ∙ v in omega arith
+
+    others : (i : ℕ) → i < 366 → (i + 1 ≡ d → ⊥) → state (filed c d withdrawn k 0) (i + 1) ≡ standing
+        → many (c .slots) (λ s. eqb (slot (filed c d withdrawn k 0) s) (i + 1)) ≡ 1
+    others i l x v =
+        other-count c z d withdrawn k 0 r f inside (i + 1) (λ g. x (sym g ∙ e)) (λ g. omega arith)
+        ∙ f .one i l (sym (state-other c z d withdrawn r k 0 (i + 1) (day i l) x) ∙ v)

@@ -1,0 +1,21 @@
+-- Holding together at the places from a to a + n: what the functions that read the store in blocks answer. Assumes nothing.
+use mathlib.Core.Path.{_≡_}
+use mathlib.Core.Bool.{true, cond}
+use mathlib.Core.List.{List}
+use Prim.Native.Nat.{ℕ, _+_, _*_, _≤_, _<_}
+use lib.Dec.{eqb}
+use lib.IntN.{ℤ, pos}
+use lib.ListN.{getD}
+use Rattle.sums.specs.Sum.{sum}
+use Rattle.sums.specs.Lists.{at}
+use Rattle.records.specs.Record.{inside}
+
+-- slot s of a store of periods P, at those places: between the rails where it is used, and zeros where it is free
+pub record Row (table : List ℕ) (P : ℕ) (store : List ℤ) (a n s : ℕ) : Type 0 where
+  pub used : (getD table s 0 ≡ 0 → ⊥) → (j : ℕ) → a ≤ j → j < a + n → inside (at store (s * P + j)) ≡ true
+  pub zeros : getD table s 0 ≡ 0 → (j : ℕ) → a ≤ j → j < a + n → at store (s * P + j) ≡ pos 0
+
+-- every slot, and the sums their total
+pub record Block (table : List ℕ) (C P : ℕ) (store sums : List ℤ) (a n : ℕ) : Type 0 where
+  pub rows : (s : ℕ) → s < C → Row table P store a n s
+  pub total : (j : ℕ) → a ≤ j → j < a + n → at sums j ≡ sum C (λ s. cond (eqb (getD table s 0) 0) (pos 0) (at store (s * P + j)))

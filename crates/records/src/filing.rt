@@ -1,0 +1,43 @@
+// The record of no days, with a day in another state, and with a slot given to it or taken from it.
+use crate::Campaign;
+ghost use mathlib.Core.Path.{_≡_};
+ghost use Prim.Native.Nat.{_≤_, _<_};
+ghost use Rattle.records.specs.Record.{fresh, marked, filed};
+
+// Every day unseen, every slot free.
+pub fn blank(order: u32, taps: u32, slots: u32) -> Campaign
+    ensures { λ r. ⌜ r ≡ fresh order taps slots ⌝ }
+{
+    let days = [0u8; 366];
+    let table = [0u16; 64];
+    Campaign {
+        order,
+        taps,
+        slots,
+        days,
+        table,
+    }
+}
+
+// Day d in the state q.
+pub fn mark(c: Campaign, d: u32, q: u8) -> Campaign
+    requires { ⌜ (1 ≤ d) × (d ≤ 366) ⌝ }
+    ensures { λ r. ⌜ r ≡ marked c d q ⌝ }
+{
+    let mut r = c;
+    let at = d as usize - 1;
+    r.days[at] = q;
+    r
+}
+
+// And slot s with the day t.
+pub fn file(c: Campaign, d: u32, q: u8, s: usize, t: u16) -> Campaign
+    requires { ⌜ (1 ≤ d) × (d ≤ 366) × (s < 64) ⌝ }
+    ensures { λ r. ⌜ r ≡ filed c d q s t ⌝ }
+{
+    let mut r = c;
+    let at = d as usize - 1;
+    r.days[at] = q;
+    r.table[s] = t;
+    r
+}

@@ -1,0 +1,149 @@
+// The store and the sums against the slots: read once, in blocks of places, slot by slot.
+use response::clear::clear_wide;
+ghost use mathlib.Core.Path.{_≡_};
+ghost use Prim.Native.Nat.{ℕ, _+_, _*_, _^_, _≤_, _<_, min};
+ghost use mathlib.Core.Bool.{Bool, true, cond};
+ghost use lib.Dec.{eqb};
+ghost use lib.IntN.{ℤ, pos, natAbs, _+ℤ_};
+ghost use lib.ListN.{length};
+ghost use Rattle.sums.specs.Lists.{at, every};
+ghost use Rattle.records.specs.Record.{inside, eqZ};
+ghost use Rattle.records.specs.Blocks.{Block};
+
+// Whether a sample lies strictly between the rails.
+fn between_rails(x: i32) -> bool
+    ensures { λ r. ⌜ r ≡ inside x ⌝ }
+{
+    -8388608 < x && x < 8388607
+}
+
+// A used slot's samples at some places, added to their sums: whether all lie strictly between the rails.
+pub fn add_row(row: &[i32], sums: &mut [i64]) -> bool
+    requires { ⌜ (length (now row) ≤ length (now sums)) × ((j : ℕ) → j < length (now row) → natAbs (at (now sums) j) ≤ 2 ^ 40) ⌝ }
+    ensures { λ r. ⌜ (r ≡ every (length (now (row .entry))) (λ j. inside (at (now (row .entry)) j)))
+        × ((j : ℕ) → at (now (sums .exit)) j ≡ at (now (sums .entry)) j +ℤ at (now (row .entry)) j) ⌝ }
+{
+    let mut good = true;
+    let mut j = 0;
+    while j < row.len() {
+        let x = row[j];
+        good = good & between_rails(x);
+        sums[j] += x as i64;
+        j += 1;
+    }
+    good
+}
+
+// Whether a free slot's samples at some places are zeros.
+fn zero_row(row: &[i32]) -> bool
+    ensures { λ r. ⌜ r ≡ every (length (now (row .entry))) (λ j. eqZ (at (now (row .entry)) j) (pos 0)) ⌝ }
+{
+    let mut j = 0;
+    while j < row.len() {
+        if row[j] != 0 {
+            return false;
+        }
+        j += 1;
+    }
+    true
+}
+
+// Whether the sums are these.
+fn same_sums(sums: &[i64], found: &[i64]) -> bool
+    requires { ⌜ length (now sums) ≤ length (now found) ⌝ }
+    ensures { λ r. ⌜ r ≡ every (length (now (sums .entry))) (λ j. eqZ (at (now (sums .entry)) j) (at (now (found .entry)) j)) ⌝ }
+{
+    let mut j = 0;
+    while j < sums.len() {
+        if sums[j] != found[j] {
+            return false;
+        }
+        j += 1;
+    }
+    true
+}
+
+// A slot's samples at some places: zeros where no day has it, else between the rails and added to their sums.
+fn take_row(day: u16, row: &[i32], sums: &mut [i64]) -> bool
+    requires { ⌜ (length (now row) ≤ length (now sums)) × ((j : ℕ) → j < length (now row) → natAbs (at (now sums) j) ≤ 2 ^ 40) ⌝ }
+    ensures { λ r. ⌜ (r ≡ cond (eqb day 0) (every (length (now (row .entry))) (λ j. eqZ (at (now (row .entry)) j) (pos 0)))
+        (every (length (now (row .entry))) (λ j. inside (at (now (row .entry)) j))))
+        × ((j : ℕ) → at (now (sums .exit)) j ≡ at (now (sums .entry)) j +ℤ cond (eqb day 0) (pos 0) (at (now (row .entry)) j)) ⌝ }
+{
+    if day == 0 {
+        return zero_row(row);
+    }
+    add_row(row, sums)
+}
+
+// Whether the places from `from` on hold together, their sums worked out in the room lent.
+fn block_holds(
+    table: &[u16],
+    slots: usize,
+    period: usize,
+    store: &[i32],
+    sums: &[i64],
+    from: usize,
+    count: usize,
+    found: &mut [i64],
+) -> bool
+    requires { ⌜ (slots ≤ 64) × (length (now table) ≡ 64) × (slots * period ≤ length (now store)) × (period ≤ length (now sums)) ⌝ }
+    requires { ⌜ (from + count ≤ period) × (count ≤ length (now found)) ⌝ }
+    ensures { λ r. ⌜ (r ≡ true → Block (now (table .entry)) slots period (now (store .entry)) (now (sums .entry)) from count)
+        × (Block (now (table .entry)) slots period (now (store .entry)) (now (sums .entry)) from count → r ≡ true) ⌝ }
+{
+    clear_wide(found, count);
+    let mut s = 0;
+    while s < slots {
+        let at = s * period + from;
+        let end = at + count;
+        if !take_row(table[s], &store[at..end], found) {
+            return false;
+        }
+        s += 1;
+    }
+    let to = from + count;
+    same_sums(&sums[from..to], found)
+}
+
+fn smaller(a: usize, b: usize) -> usize
+    ensures { λ r. ⌜ r ≡ min a b ⌝ }
+{
+    if a < b { a } else { b }
+}
+
+// Whether all places hold together, block after block.
+fn blocks_hold(
+    table: &[u16],
+    slots: usize,
+    period: usize,
+    store: &[i32],
+    sums: &[i64],
+    found: &mut [i64],
+) -> bool
+    requires { ⌜ (slots ≤ 64) × (length (now table) ≡ 64) × (slots * period ≤ length (now store)) × (period ≤ length (now sums)) ⌝ }
+    requires { ⌜ 0 < length (now found) ⌝ }
+    ensures { λ r. ⌜ (r ≡ true → Block (now (table .entry)) slots period (now (store .entry)) (now (sums .entry)) 0 period)
+        × (Block (now (table .entry)) slots period (now (store .entry)) (now (sums .entry)) 0 period → r ≡ true) ⌝ }
+{
+    let size = found.len();
+    let mut from = 0;
+    while from < period {
+        let count = smaller(period - from, size);
+        if !block_holds(table, slots, period, store, sums, from, count, found) {
+            return false;
+        }
+        from += count;
+    }
+    true
+}
+
+// The same, with the sums of a block in a room of its own.
+pub fn store_holds(table: &[u16], slots: usize, period: usize, store: &[i32], sums: &[i64]) -> bool
+    requires { ⌜ (slots ≤ 64) × (length (now table) ≡ 64) × (slots * period ≤ length (now store)) × (period ≤ length (now sums)) ⌝ }
+    ensures { λ r. ⌜ (r ≡ true → Block (now (table .entry)) slots period (now (store .entry)) (now (sums .entry)) 0 period)
+        × (Block (now (table .entry)) slots period (now (store .entry)) (now (sums .entry)) 0 period → r ≡ true) ⌝ }
+{
+    let mut found: [i64; 1024] = [0; 1024];
+    blocks_hold(table, slots, period, store, sums, &mut found)
+}

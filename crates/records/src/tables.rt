@@ -1,0 +1,189 @@
+// The days' states and the slots' days, as the record has them.
+ghost use mathlib.Core.Path.{_≡_};
+ghost use mathlib.Core.Bool.{cond, not, _&&_, _||_};
+ghost use Prim.Native.Nat.{_+_, _-_, _≤_};
+ghost use lib.Dec.{eqb, ltb, leb};
+ghost use lib.ListN.{length, getD};
+ghost use Rattle.sums.specs.Lists.{every, many, seek};
+ghost use Rattle.records.specs.Record.{stands, slotsHold, statesHold, pastFree, slotsStand, oneSlot};
+
+// Whether a number is not 1 to the most.
+pub fn outside(n: u32, most: u32) -> bool
+    ensures { λ r. ⌜ r ≡ ltb n 1 || ltb most n ⌝ }
+{
+    n < 1 || most < n
+}
+
+// Whether a day from 1 to 366 stands.
+pub fn day_stands(c: crate::Campaign, d: u32) -> bool
+    requires { ⌜ (1 ≤ d) × (d ≤ 366) ⌝ }
+    ensures { λ r. ⌜ r ≡ stands c d ⌝ }
+{
+    let days = c.days;
+    days[d as usize - 1] == 1
+}
+
+// Whether every day's state is one of the five.
+pub fn states_hold(days: &[u8]) -> bool
+    requires { ⌜ length (now days) ≡ 366 ⌝ }
+    ensures { λ r. ⌜ r ≡ every 366 (λ i. leb (getD (now (days .entry)) i 0) 4) ⌝ }
+{
+    let mut i = 0;
+    while i < 366 {
+        if days[i] > 4 {
+            return false;
+        }
+        i += 1;
+    }
+    true
+}
+
+// Whether a slot is one that was given out, or free.
+fn given_or_free(s: usize, slots: usize, day: u16) -> bool
+    ensures { λ r. ⌜ r ≡ ltb s slots || eqb day 0 ⌝ }
+{
+    s < slots || day == 0
+}
+
+// Whether every slot past those given out is free.
+pub fn past_free(table: &[u16], slots: usize) -> bool
+    requires { ⌜ length (now table) ≡ 64 ⌝ }
+    ensures { λ r. ⌜ r ≡ every 64 (λ s. ltb s slots || eqb (getD (now (table .entry)) s 0) 0) ⌝ }
+{
+    let mut s = 0;
+    while s < 64 {
+        if !given_or_free(s, slots, table[s]) {
+            return false;
+        }
+        s += 1;
+    }
+    true
+}
+
+// Whether a slot with this day is free, or the day stands.
+fn free_or_stands(days: &[u8], day: u16) -> bool
+    requires { ⌜ length (now days) ≡ 366 ⌝ }
+    ensures { λ r. ⌜ r ≡ eqb day 0 || (leb day 366 && eqb (getD (now (days .entry)) (day - 1) 0) 1) ⌝ }
+{
+    day == 0 || (day <= 366 && days[day as usize - 1] == 1)
+}
+
+// Whether every used slot names a standing day.
+pub fn slots_stand(days: &[u8], table: &[u16], slots: usize) -> bool
+    requires { ⌜ length (now days) ≡ 366 ⌝ }
+    requires { ⌜ length (now table) ≡ 64 ⌝ }
+    requires { ⌜ slots ≤ 64 ⌝ }
+    ensures { λ r. ⌜ r ≡ every slots (λ s. eqb (getD (now (table .entry)) s 0) 0 || (leb (getD (now (table .entry)) s 0) 366 && eqb (getD (now (days .entry)) (getD (now (table .entry)) s 0 - 1) 0) 1)) ⌝ }
+{
+    let mut s = 0;
+    while s < slots {
+        if !free_or_stands(days, table[s]) {
+            return false;
+        }
+        s += 1;
+    }
+    true
+}
+
+// 1 where the two are the same, 0 where they are not.
+fn hit(x: u16, y: u16) -> u32
+    ensures { λ r. ⌜ r ≡ cond (eqb x y) 1 0 ⌝ }
+{
+    if x == y { 1 } else { 0 }
+}
+
+// How many slots hold this day.
+pub fn slots_of(table: &[u16], slots: usize, day: u16) -> u32
+    requires { ⌜ length (now table) ≡ 64 ⌝ }
+    requires { ⌜ slots ≤ 64 ⌝ }
+    ensures { λ r. ⌜ r ≡ many slots (λ s. eqb (getD (now (table .entry)) s 0) day) ⌝ }
+{
+    let mut n = 0u32;
+    let mut s = 0;
+    while s < slots {
+        n += hit(table[s], day);
+        s += 1;
+    }
+    n
+}
+
+// Whether a day does not stand, or has exactly one slot.
+fn idle_or_once(table: &[u16], slots: usize, state: u8, day: u16) -> bool
+    requires { ⌜ length (now table) ≡ 64 ⌝ }
+    requires { ⌜ slots ≤ 64 ⌝ }
+    ensures { λ r. ⌜ r ≡ not (eqb state 1) || eqb (many slots (λ s. eqb (getD (now (table .entry)) s 0) day)) 1 ⌝ }
+{
+    state != 1 || slots_of(table, slots, day) == 1
+}
+
+// Whether every standing day has exactly one slot.
+pub fn one_slot(days: &[u8], table: &[u16], slots: usize) -> bool
+    requires { ⌜ length (now days) ≡ 366 ⌝ }
+    requires { ⌜ length (now table) ≡ 64 ⌝ }
+    requires { ⌜ slots ≤ 64 ⌝ }
+    ensures { λ r. ⌜ r ≡ every 366 (λ i. not (eqb (getD (now (days .entry)) i 0) 1) || eqb (many slots (λ s. eqb (getD (now (table .entry)) s 0) (i + 1))) 1) ⌝ }
+{
+    let mut i = 0;
+    while i < 366 {
+        if !idle_or_once(table, slots, days[i], (i + 1) as u16) {
+            return false;
+        }
+        i += 1;
+    }
+    true
+}
+
+// The first slot that holds this day, 0 for a free one, and the number of slots where there is none.
+pub fn find(table: &[u16], slots: usize, day: u16) -> usize
+    requires { ⌜ length (now table) ≡ 64 ⌝ }
+    requires { ⌜ slots ≤ 64 ⌝ }
+    ensures { λ r. ⌜ r ≡ seek (λ s. eqb (getD (now (table .entry)) s 0) day) slots 0 ⌝ }
+{
+    let mut s = 0;
+    while s < slots {
+        if table[s] == day {
+            return s;
+        }
+        s += 1;
+    }
+    s
+}
+
+// How many days are in this state.
+pub fn days_in(days: &[u8], q: u8) -> u32
+    requires { ⌜ length (now days) ≡ 366 ⌝ }
+    ensures { λ r. ⌜ r ≡ many 366 (λ i. eqb (getD (now (days .entry)) i 0) q) ⌝ }
+{
+    let mut n = 0u32;
+    let mut i = 0;
+    while i < 366 {
+        n += hit(days[i] as u16, q as u16);
+        i += 1;
+    }
+    n
+}
+
+// Whether the slots and the days' states hold together.
+pub fn filed_holds(c: crate::Campaign) -> bool
+    ensures { λ r. ⌜ r ≡ slotsHold c && statesHold c && pastFree c && slotsStand c && oneSlot c ⌝ }
+{
+    let slots = c.slots as usize;
+    let days = c.days;
+    let table = c.table;
+    if slots < 1 {
+        return false;
+    }
+    if slots > 64 {
+        return false;
+    }
+    if !states_hold(&days) {
+        return false;
+    }
+    if !past_free(&table, slots) {
+        return false;
+    }
+    if !slots_stand(&days, &table, slots) {
+        return false;
+    }
+    one_slot(&days, &table, slots)
+}
