@@ -44,15 +44,21 @@ pub fn check_start(order: u32, taps: u32, slots: u32) -> Result<(), Refusal> {
 }
 
 /// Refusals 1, 2, 3, 4, 9, 6.
-pub fn start(order: u32, taps: u32, slots: u32, lent: &mut Lent) -> Result<Campaign, Refusal> {
+pub fn start(
+    order: u32,
+    taps: u32,
+    slots: u32,
+    store: &mut [i32],
+    sums: &mut [i64],
+) -> Result<Campaign, Refusal> {
     check_start(order, taps, slots)?;
     let p = period(order);
     let store_length = slots as usize * p;
-    if lent.store.len() < store_length || lent.sums.len() < p {
+    if store.len() < store_length || sums.len() < p {
         return Err(ROOM_TOO_SHORT);
     }
-    lent.store[..store_length].fill(0);
-    lent.sums[..p].fill(0);
+    store[..store_length].fill(0);
+    sums[..p].fill(0);
     let days = [DayState::Unseen; DAYS];
     Ok(Campaign {
         order,

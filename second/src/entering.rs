@@ -12,6 +12,35 @@ pub enum Verdict {
     Refused(Refusal),
 }
 
+impl Verdict {
+    /// The number printed for it: 0 means accepted.
+    pub fn number(&self) -> Refusal {
+        match *self {
+            Verdict::Refused(refusal) => refusal,
+            _ => 0,
+        }
+    }
+
+    /// The word printed for it.
+    pub fn word(&self) -> &'static str {
+        match self {
+            Verdict::Kept { .. } => "kept",
+            Verdict::Overloaded { .. } => "overload",
+            Verdict::Dead => "dead",
+            Verdict::Refused(_) => "-",
+        }
+    }
+
+    /// The slot or the place that it carries, 0 where it carries neither.
+    pub fn value(&self) -> usize {
+        match *self {
+            Verdict::Kept { slot } => slot,
+            Verdict::Overloaded { place } => place,
+            Verdict::Dead | Verdict::Refused(_) => 0,
+        }
+    }
+}
+
 #[derive(Clone, Copy, Debug, PartialEq, Eq)]
 pub struct Entry {
     pub day: u16,

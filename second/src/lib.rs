@@ -21,3 +21,6 @@ pub mod rng;
 pub mod room;
 pub mod run;
 pub mod text;
+pub mod year;
+pub mod year_calls;
+pub mod year_memory;

@@ -1,7 +1,6 @@
 //! A run of the log program: its campaign, its open day and the lines it prints.
 
 use crate::campaign::{check_start, start, Campaign, Lent};
-use crate::entering::Verdict;
 use crate::met;
 use crate::reading::Counts;
 use crate::record::{Record, ASK, ENTER, OPEN, SAMPLE, START, WITHDRAW};
@@ -54,7 +53,7 @@ fn start_in_program(order: u32, taps: u32, slots: u32) -> Result<(Campaign, Lent
         store: vec![0; slots as usize * p],
         sums: vec![0; p],
     };
-    let campaign = start(order, taps, slots, &mut lent)?;
+    let campaign = start(order, taps, slots, &mut lent.store, &mut lent.sums)?;
     Ok((campaign, lent))
 }
 
@@ -142,12 +141,7 @@ impl Run {
         let (campaign, lent) = self.campaign();
         let before = campaign.clone();
         let entry = campaign.enter(lent, day, &samples);
-        let (answer, word) = match entry.verdict {
-            Verdict::Kept { .. } => (0, "kept"),
-            Verdict::Overloaded { .. } => (0, "overload"),
-            Verdict::Dead => (0, "dead"),
-            Verdict::Refused(refusal) => (refusal, "-"),
-        };
+        let (answer, word) = (entry.verdict.number(), entry.verdict.word());
         self.answer
             .line(format_args!("enter {} {answer} {word}", entry.day));
         self.answer

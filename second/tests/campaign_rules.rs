@@ -19,7 +19,8 @@ fn lent(slots: usize) -> Lent {
 /// Order 3, taps 3.
 fn campaign(slots: u32) -> (Campaign, Lent) {
     let mut lent = lent(slots as usize);
-    (start(3, 3, slots, &mut lent).unwrap(), lent)
+    let campaign = start(3, 3, slots, &mut lent.store, &mut lent.sums).unwrap();
+    (campaign, lent)
 }
 
 fn enter(at: &mut (Campaign, Lent), day: u16, recording: &[i32]) -> Verdict {
@@ -53,7 +54,7 @@ fn response(at: &(Campaign, Lent), r: usize, means: usize, wide: usize) -> Resul
 
 #[test]
 fn a_start_refuses_in_order() {
-    let refused = |order, taps, slots| start(order, taps, slots, &mut lent(0)).unwrap_err();
+    let refused = |order, taps, slots| start(order, taps, slots, &mut [], &mut []).unwrap_err();
     assert_eq!(refused(17, 0, 0), 1);
     assert_eq!(refused(3, 8, 0), 2);
     assert_eq!(refused(3, 2, 0), 3);
@@ -64,7 +65,8 @@ fn a_start_refuses_in_order() {
         store: vec![9; 7],
         sums: vec![9; 6],
     };
-    assert_eq!(start(3, 3, 1, &mut no_sums), Err(6));
+    let refused = start(3, 3, 1, &mut no_sums.store, &mut no_sums.sums);
+    assert_eq!(refused, Err(6));
     assert_eq!(
         no_sums,
         Lent {
@@ -80,7 +82,7 @@ fn a_start_clears_only_its_own_part() {
         store: vec![9; 15],
         sums: vec![9; 8],
     };
-    start(3, 3, 2, &mut long).unwrap();
+    start(3, 3, 2, &mut long.store, &mut long.sums).unwrap();
     assert_eq!(long.store, [[0; 14].as_slice(), &[9]].concat());
     assert_eq!(long.sums, [0, 0, 0, 0, 0, 0, 0, 9]);
 }

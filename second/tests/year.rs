@@ -1,0 +1,182 @@
+//! Facts about the year, each worked out apart from the stored output.
+
+use second::numbers::digest;
+use second::register::period;
+use second::year::{
+    be_refused, begin, day_of, lines, print, recording, visit, Plan, PLANS, REFUSED_AFTER, VISITS,
+};
+use std::collections::BTreeSet;
+
+fn words(line: &str) -> Vec<&str> {
+    line.split(' ').collect()
+}
+
+/// The answer that a line prints; a memory line and a summary of nothing print none.
+fn answer(line: &str) -> Option<u8> {
+    match words(line)[..] {
+        ["memory", ..] | ["summary", "nothing", ..] => None,
+        ["enter" | "withdraw", _, answer, ..] => Some(answer.parse().unwrap()),
+        [_, answer, ..] => Some(answer.parse().unwrap()),
+        _ => panic!("`{line}` is no line of the year"),
+    }
+}
+
+/// The digest of a list whose first places hold these values and place i beyond them i mod 7.
+fn digest_with_tail(front: &[i64], length: usize) -> i64 {
+    let tail = (front.len()..length).map(|i| i as i64 % 7);
+    digest(front.iter().copied().chain(tail))
+}
+
+#[test]
+fn each_day_comes_twice() {
+    for day in 1..=366 {
+        assert_eq!((0..VISITS).filter(|&i| day_of(i) == day).count(), 2);
+    }
+}
+
+#[test]
+fn each_campaign_meets_every_refusal() {
+    for plan in PLANS {
+        let met = |of_the_campaign: bool| -> BTreeSet<u8> {
+            let calls = lines(plan).into_iter().filter(|line| {
+                of_the_campaign != (line.starts_with("predict") || line.starts_with("step"))
+            });
+            calls.filter_map(|line| answer(&line)).collect()
+        };
+        let every = (0..=7).chain(9..=15).collect();
+        assert_eq!(met(true), every, "order {}", plan.order);
+        assert_eq!(met(false), BTreeSet::from([8, 16]), "order {}", plan.order);
+    }
+}
+
+#[test]
+fn each_campaign_meets_every_verdict() {
+    for plan in PLANS {
+        let lines = lines(plan);
+        let entries = lines.iter().filter(|line| line.starts_with("enter"));
+        let met: BTreeSet<&str> = entries.map(|line| words(line)[3]).collect();
+        assert_eq!(met, BTreeSet::from(["-", "dead", "kept", "overload"]));
+    }
+}
+
+#[test]
+fn accepted_counts_total_366() {
+    for line in PLANS.into_iter().flat_map(lines) {
+        if line.starts_with("counts 0 ") {
+            let total: u32 = words(&line)[2..]
+                .iter()
+                .map(|n| n.parse::<u32>().unwrap())
+                .sum();
+            assert_eq!(total, 366, "{line}");
+        }
+    }
+}
+
+#[test]
+fn being_refused_changes_nothing() {
+    for plan in PLANS {
+        let mut calls = begin(plan);
+        for i in 0..=REFUSED_AFTER {
+            visit(&mut calls, plan.lag, i);
+        }
+        let before = calls.clone();
+        be_refused(&mut calls);
+        assert_eq!(calls.campaign, before.campaign);
+        assert_eq!(calls.memory, before.memory);
+        let refused = &calls.lines[before.lines.len()..];
+        let (memory, refused) = refused.split_last().unwrap();
+        assert!(refused.iter().all(|line| answer(line) > Some(0)));
+        assert!(memory.starts_with("memory "));
+        assert_eq!(before.lines.last(), Some(memory));
+    }
+}
+
+#[test]
+fn each_campaign_ends_with_nothing_standing() {
+    for plan in PLANS {
+        let p = period(plan.order);
+        let zeros = |count, length| digest_with_tail(&vec![0; count], length);
+        let store = zeros(plan.slots as usize * p, 24_600);
+        let (sums, wide, tags) = (zeros(p, 600), zeros(p + 1, 600), zeros(2 * p, 1_100));
+        let lines = lines(plan);
+        let [counts, response, summary, memory] = lines.last_chunk().unwrap();
+        assert_eq!(words(counts)[3], "0");
+        assert!(response.starts_with("response 14 "));
+        assert!(response.ends_with(&format!(" {wide} {tags}")));
+        assert_eq!(*summary, format!("summary nothing {wide} {tags}"));
+        assert_eq!(*memory, format!("memory {store} {sums}"));
+    }
+}
+
+/// The day and the visit in each slot, as the lines tell it.
+struct Told {
+    plan: Plan,
+    slots: Vec<Option<(u16, usize)>>,
+}
+
+impl Told {
+    fn slot_of(&self, day: &str) -> Option<usize> {
+        let holds = |slot: &Option<(u16, usize)>| slot.is_some_and(|(d, _)| d.to_string() == day);
+        self.slots.iter().position(holds)
+    }
+
+    fn hear(&mut self, line: &str, visit: usize) {
+        let free = self.slots.iter().position(Option::is_none);
+        match words(line)[..] {
+            ["enter", _, "0", "kept", slot] => {
+                assert_eq!(Some(slot.parse().unwrap()), free);
+                self.slots[free.unwrap()] = Some((day_of(visit), visit));
+            }
+            ["enter", day, "11", ..] => assert!(self.slot_of(day).is_some()),
+            ["enter", _, "12", ..] => assert_eq!(free, None),
+            ["withdraw", day, "0"] => {
+                let slot = self.slot_of(day).unwrap();
+                self.slots[slot] = None;
+            }
+            ["withdraw", day, "13"] => assert_eq!(self.slot_of(day), None),
+            ["counts", "0", _, standing, ..] => {
+                let told = self.slots.iter().flatten().count();
+                assert_eq!(standing, told.to_string());
+            }
+            ["memory", ..] => assert_eq!(line, self.memory()),
+            _ => {}
+        }
+    }
+
+    /// The memory's line, from the recordings of the visits that stand.
+    fn memory(&self) -> String {
+        let p = period(self.plan.order);
+        let samples = |slot: &Option<(u16, usize)>| match slot {
+            Some((_, visit)) => recording(*visit, p),
+            None => vec![0; p],
+        };
+        let store: Vec<i64> = self.slots.iter().flat_map(samples).map(i64::from).collect();
+        let sum = |place| store.iter().skip(place).step_by(p).sum();
+        let sums: Vec<i64> = (0..p).map(sum).collect();
+        let digests = [(&store, 24_600), (&sums, 600)].map(|(list, n)| digest_with_tail(list, n));
+        format!("memory {} {}", digests[0], digests[1])
+    }
+}
+
+#[test]
+fn the_lines_alone_tell_slots_store_and_sums() {
+    for plan in PLANS {
+        let slots = vec![None; plan.slots as usize];
+        let mut told = Told { plan, slots };
+        let mut calls = begin(plan);
+        for i in 0..VISITS {
+            calls.lines.clear();
+            visit(&mut calls, plan.lag, i);
+            for line in &calls.lines {
+                told.hear(line, i);
+            }
+        }
+    }
+}
+
+#[test]
+fn the_stored_year_is_what_is_printed() {
+    let mut printed = Vec::new();
+    print(&mut printed).unwrap();
+    assert!(printed == include_bytes!("../year.txt"));
+}
