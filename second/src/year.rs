@@ -64,6 +64,7 @@ pub fn print(out: &mut impl Write) -> io::Result<()> {
 /// Every line of one campaign.
 pub fn lines(plan: Plan) -> Vec<String> {
     let mut calls = begin(plan);
+    ask(&mut calls);
     for i in 0..VISITS {
         visit(&mut calls, plan.lag, i);
         if i == REFUSED_AFTER {

@@ -1,4 +1,2 @@
 -- The laws of the program's own numbers.
-mod Below
-mod Folding
 mod Filling

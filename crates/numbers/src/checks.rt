@@ -1,5 +1,5 @@
 // The lines of the taps check and of the default taps.
-use crate::print::three;
+use lines::print::three;
 use register::DefaultTaps;
 use register::taps::check_taps;
 use register::taps::default_taps;

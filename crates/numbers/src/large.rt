@@ -1,11 +1,11 @@
 // The lines of every order's prediction and of its response, and of the loudest recordings.
-use crate::digest::digest_samples;
-use crate::digest::digest_scaled;
-use crate::digest::digest_wide;
-use crate::print::line_end;
-use crate::print::number;
-use crate::print::three;
-use crate::print::word;
+use lines::digest::digest_samples;
+use lines::digest::digest_scaled;
+use lines::digest::digest_wide;
+use lines::print::line_end;
+use lines::print::number;
+use lines::print::three;
+use lines::print::word;
 use crate::signals::fill_pattern;
 use crate::signals::fill_turns;
 use register::DefaultTaps;

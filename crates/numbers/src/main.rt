@@ -1,8 +1,6 @@
 // The numbers to hold the meter to, from the proved calls: a second program prints the same lines.
 mod checks;
-mod digest;
 mod large;
-mod print;
 mod recordings;
 mod signals;
 

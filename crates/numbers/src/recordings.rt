@@ -1,8 +1,8 @@
 // The lines of short recordings, of means, and of a prediction that is refused.
-use crate::print::line_end;
-use crate::print::number;
-use crate::print::signed;
-use crate::print::word;
+use lines::print::line_end;
+use lines::print::number;
+use lines::print::signed;
+use lines::print::word;
 use response::rounding::mean;
 ghost use Prim.Native.Nat.{_<_, _^_};
 ghost use lib.IntN.{natAbs};

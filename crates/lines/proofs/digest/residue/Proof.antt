@@ -1,4 +1,4 @@
--- `numbers::digest::residue` meets its contract. Assumes nothing.
+-- `lines::digest::residue` meets its contract. Assumes nothing.
 use borrow.Author.Needs.{needs}
 use mathlib.Core.Path.{_≡_}
 use mathlib.Core.Bool.{false}
@@ -10,9 +10,9 @@ use mir.Syntax.{w64}
 use mir.Val.{toZ, ofZ}
 use mir.ValLaws.{toZ-ofZ}
 use Rattle.sums.proofs.Bound.{is-nonNeg, natAbs-≤}
-use Rattle.numbers.proofs.Folding.{residue-negative, residue-positive}
-use Rattle.numbers.proofs.digest.residue.Statement.{statement}
-use Rattle.numbers.proofs.digest.residue.Tie as tie
+use Rattle.lines.proofs.Folding.{residue-negative, residue-positive}
+use Rattle.lines.proofs.digest.residue.Statement.{statement}
+use Rattle.lines.proofs.digest.residue.Tie as tie
 
 back : (c : tie.Start) → toZ w64 (ofZ w64 (c .args .v)) ≡ c .args .v
 back c = toZ-ofZ w64 (c .args .v) (c .fits .v)

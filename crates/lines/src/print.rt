@@ -20,6 +20,15 @@ pub fn signed(v: i64) {
     }
 }
 
+// The bits of a double as a number, and 0 for one that is no number.
+pub fn bits(x: f64) {
+    if x == x {
+        number(f64::to_bits(x));
+    } else {
+        number(0);
+    }
+}
+
 pub fn line_end() {
     word(b"\n");
 }

@@ -10,7 +10,7 @@ use lib.Signed.{ltZ, mag}
 use mir.Syntax.{w64}
 use mir.Val.{SFits}
 use Rattle.sums.proofs.Bound.{natAbs-*, natAbs-≤, small-fits}
-use Rattle.numbers.specs.Digest.{residue, digest}
+use Rattle.lines.specs.Digest.{residue, digest}
 
 pub residue-negative : {z : ℤ} {n : ℕ} → z ≡ negsuc n → 1000002 - n % 1000003 ≡ residue z
 unfolding residue

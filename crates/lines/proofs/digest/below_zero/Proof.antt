@@ -1,4 +1,4 @@
--- `numbers::digest::below_zero` meets its contract: what the machine reads back from a number's bits is the number. Assumes nothing.
+-- `lines::digest::below_zero` meets its contract: what the machine reads back from a number's bits is the number. Assumes nothing.
 use mathlib.Core.Path.{_≡_}
 use lib.IntN.{pos, negsuc, _-ℤ_}
 use lib.Signed.{mag}
@@ -6,9 +6,9 @@ use native.Mathlib.Omega.{arith}
 use mir.Syntax.{w64}
 use mir.Val.{toZ, ofZ, SFits}
 use mir.ValLaws.{toZ-ofZ}
-use Rattle.numbers.proofs.Below.{negative, from-below}
-use Rattle.numbers.proofs.digest.below_zero.Statement.{statement}
-use Rattle.numbers.proofs.digest.below_zero.Tie as tie
+use Rattle.lines.proofs.Below.{negative, from-below}
+use Rattle.lines.proofs.digest.below_zero.Statement.{statement}
+use Rattle.lines.proofs.digest.below_zero.Tie as tie
 
 back : (c : tie.Start) → toZ w64 (ofZ w64 (c .args .v)) ≡ c .args .v
 back c = toZ-ofZ w64 (c .args .v) (c .fits .v)

@@ -1,4 +1,4 @@
--- `numbers::digest::fold` meets its contract. Assumes nothing.
+-- `lines::digest::fold` meets its contract. Assumes nothing.
 use borrow.Author.Needs.{needs}
 use mathlib.Core.Path.{ap}
 use Prim.Native.Nat.{_+_, _*_, _%_}
@@ -6,8 +6,8 @@ use native.Mathlib.Nat.{mod-lt}
 use native.Mathlib.Omega.{arith}
 use mir.Syntax.{w64}
 use mir.ValLaws.{toZ-ofZ}
-use Rattle.numbers.proofs.digest.fold.Statement.{statement}
-use Rattle.numbers.proofs.digest.fold.Tie as tie
+use Rattle.lines.proofs.digest.fold.Statement.{statement}
+use Rattle.lines.proofs.digest.fold.Tie as tie
 
 mul-result : tie.Need-mul-result
 mul-result c = search needs

@@ -1,11 +1,11 @@
--- `numbers::print::signed` meets its contract. Assumes nothing.
+-- `lines::print::signed` meets its contract. Assumes nothing.
 use borrow.Author.Needs.{needs}
 use native.Mathlib.Omega.{arith}
 use mir.Syntax.{w64}
 use mir.ValLaws.{toZ-ofZ}
 use Rattle.sums.proofs.Bound.{is-nonNeg, natAbs-≤}
-use Rattle.numbers.proofs.print.signed.Statement.{statement}
-use Rattle.numbers.proofs.print.signed.Tie as tie
+use Rattle.lines.proofs.print.signed.Statement.{statement}
+use Rattle.lines.proofs.print.signed.Tie as tie
 
 slice-aggregate-word : tie.Need-slice-aggregate-word
 slice-aggregate-word c = search needs

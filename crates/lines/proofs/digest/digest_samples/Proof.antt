@@ -1,14 +1,14 @@
--- `numbers::digest::digest_samples` meets its contract: after j turns d is the digest of the first j. Assumes nothing.
+-- `lines::digest::digest_samples` meets its contract: after j turns d is the digest of the first j. Assumes nothing.
 use mathlib.Core.Path.{_≡_, sym, ap, _∙_}
 use Prim.Native.Nat.{_-_, _≤_}
 use native.Mathlib.Omega.{arith}
 use lib.ListN.{length}
 use Rattle.sums.specs.Lists.{at}
 use Rattle.sums.proofs.Bound.{wide, wide-fits}
-use Rattle.numbers.specs.Digest.{digest}
-use Rattle.numbers.proofs.Folding.{digest-none, digest-lt, digest-more}
-use Rattle.numbers.proofs.digest.digest_samples.Statement.{statement}
-use Rattle.numbers.proofs.digest.digest_samples.Tie as tie
+use Rattle.lines.specs.Digest.{digest}
+use Rattle.lines.proofs.Folding.{digest-none, digest-lt, digest-more}
+use Rattle.lines.proofs.digest.digest_samples.Statement.{statement}
+use Rattle.lines.proofs.digest.digest_samples.Tie as tie
 
 abbrev Inv-loop : tie.InvT-loop
 Inv-loop y d₀ j₀ d j = (j ≤ length y) × (d ≡ digest j (at y))

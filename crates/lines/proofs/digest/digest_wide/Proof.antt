@@ -1,4 +1,4 @@
--- `numbers::digest::digest_wide` meets its contract: after j turns d is the digest of the first j. Assumes nothing.
+-- `lines::digest::digest_wide` meets its contract: after j turns d is the digest of the first j. Assumes nothing.
 use mathlib.Core.Path.{_≡_, sym, ap, _∙_}
 use Prim.Native.Nat.{_-_, _≤_}
 use native.Mathlib.Omega.{arith}
@@ -6,10 +6,10 @@ use lib.ListN.{length}
 use mir.Syntax.{w64}
 use Rattle.sums.specs.Lists.{at}
 use Rattle.sums.proofs.Bound.{read}
-use Rattle.numbers.specs.Digest.{digest}
-use Rattle.numbers.proofs.Folding.{digest-none, digest-lt, digest-more}
-use Rattle.numbers.proofs.digest.digest_wide.Statement.{statement}
-use Rattle.numbers.proofs.digest.digest_wide.Tie as tie
+use Rattle.lines.specs.Digest.{digest}
+use Rattle.lines.proofs.Folding.{digest-none, digest-lt, digest-more}
+use Rattle.lines.proofs.digest.digest_wide.Statement.{statement}
+use Rattle.lines.proofs.digest.digest_wide.Tie as tie
 
 abbrev Inv-loop : tie.InvT-loop
 Inv-loop v d₀ j₀ d j = (j ≤ length v) × (d ≡ digest j (at v))

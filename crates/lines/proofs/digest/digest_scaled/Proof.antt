@@ -1,4 +1,4 @@
--- `numbers::digest::digest_scaled` meets its contract: after j turns d is the digest of the first j. Assumes nothing.
+-- `lines::digest::digest_scaled` meets its contract: after j turns d is the digest of the first j. Assumes nothing.
 use mathlib.Core.Path.{_≡_, sym, ap, ap₂, _∙_}
 use Prim.Native.Nat.{ℕ, _-_, _^_, _≤_, _<_}
 use native.Mathlib.Omega.{arith}
@@ -10,10 +10,10 @@ use mir.Val.{toZ, ofZ}
 use mir.Facts.{toZ-ofZ, toZ-pos}
 use Rattle.sums.specs.Lists.{at}
 use Rattle.sums.proofs.Bound.{wide, wide-fits}
-use Rattle.numbers.specs.Digest.{digest}
-use Rattle.numbers.proofs.Folding.{product-fits, digest-none, digest-lt, digest-more}
-use Rattle.numbers.proofs.digest.digest_scaled.Statement.{statement}
-use Rattle.numbers.proofs.digest.digest_scaled.Tie as tie
+use Rattle.lines.specs.Digest.{digest}
+use Rattle.lines.proofs.Folding.{product-fits, digest-none, digest-lt, digest-more}
+use Rattle.lines.proofs.digest.digest_scaled.Statement.{statement}
+use Rattle.lines.proofs.digest.digest_scaled.Tie as tie
 
 -- what is digested
 abbrev times : List ℤ → ℕ → ℕ → ℤ

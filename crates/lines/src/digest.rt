@@ -3,10 +3,10 @@ ghost use mathlib.Core.Path.{_≡_};
 ghost use mathlib.Core.Bool.{true};
 ghost use Prim.Native.Nat.{_+_, _*_, _%_, _≤_, _<_, _^_};
 ghost use lib.IntN.{pos, negsuc, _*ℤ_};
-ghost use lib.ListN.{length};
+ghost use lib.ListN.{length, getD};
 ghost use lib.Signed.{ltZ};
 ghost use Rattle.sums.specs.Lists.{at};
-ghost use Rattle.numbers.specs.Digest.{residue as residueOf, digest as digestOf};
+ghost use Rattle.lines.specs.Digest.{residue as residueOf, digest as digestOf};
 
 const MODULUS: u64 = 1000003;
 
@@ -56,6 +56,18 @@ pub fn digest_wide(v: &[i64]) -> u64
     let mut j = 0;
     while j < v.len() {
         d = fold(d, v[j]);
+        j += 1;
+    }
+    d
+}
+
+pub fn digest_tags(v: &[u16]) -> u64
+    ensures { λ r. ⌜ r ≡ digestOf (length (now (v .entry))) (λ j. pos (getD (now (v .entry)) j 0)) ⌝ }
+{
+    let mut d = 0;
+    let mut j = 0;
+    while j < v.len() {
+        d = fold(d, v[j] as i64);
         j += 1;
     }
     d

@@ -1,0 +1,3 @@
+-- The laws of the digest.
+pub mod Below
+pub mod Folding

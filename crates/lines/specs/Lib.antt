@@ -1,0 +1,2 @@
+-- What the lines of a program say of a long list.
+pub mod Digest
