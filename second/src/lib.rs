@@ -20,4 +20,5 @@ pub mod response;
 pub mod rng;
 pub mod room;
 pub mod run;
+pub mod samples;
 pub mod text;

@@ -1,7 +1,7 @@
 //! The commands.
 
 use second::compare::{compare, Other};
-use second::{log, make, numbers, text};
+use second::{log, make, numbers, samples, text};
 use std::io::{self, Read, Write};
 use std::process::ExitCode;
 use std::{env, fs};
@@ -11,7 +11,8 @@ const USAGE: &str = "usage:
   second make SEED COUNT DIR                          random logs into DIR
   second compare PROGRAM SEED COUNT [WRAPPER...]      PROGRAM's lines against ours
   second text                                         readable text in, log out
-  second numbers                                      the numbers by direct formulas";
+  second numbers                                      the numbers by direct formulas
+  second samples                                      a player's runs, from the sequence";
 
 /// 0 done, 1 differences found or a bad line of text, 2 not usable as asked.
 fn main() -> ExitCode {
@@ -40,6 +41,7 @@ fn run(words: &[String]) -> Result<ExitCode, String> {
         }
         ["text"] => turn_text(),
         ["numbers"] => numbers::print(&mut io::stdout()).map(|()| ExitCode::SUCCESS),
+        ["samples"] => samples::print(&mut io::stdout()).map(|()| ExitCode::SUCCESS),
         _ => return Err(format!("no such command\n{USAGE}")),
     };
     done.map_err(|fault| fault.to_string())

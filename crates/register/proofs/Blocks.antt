@@ -57,7 +57,8 @@ calls-accepted zero p h = refl
 calls-accepted (suc n) p h =
     let q = advanced p in
     let next = passes-step q (next-playable p (playable p h)) in
-    let signs : table n (signAfter q) ≡ table n (λ k. signAfter p (suc k)) = table-ext n (λ k _. ap (λ (a : Player). sign (a .window % 2)) (after-first p k)) in
+    let signs : table n (signAfter q) ≡ table n (λ k. signAfter p (suc k)) =
+    table-ext n (λ k _. ap (λ (a : Player). sign (a .window % 2)) (after-first p k)) in
     ap (λ (s : Stepped). (s .tick ∷ calls n (s .player) .0, calls n (s .player) .1)) (accepted p h)
     ∙ ap (λ (l : List Tick × Player). (Sign (signAfter p 0) ∷ l .0, l .1)) (calls-accepted n q next)
     ∙ ap₂ (λ (l : List ℤ) (a : Player). (Sign (signAfter p 0) ∷ map Sign l, a)) signs (after-first p n)
@@ -102,29 +103,31 @@ unfolding after
 after-after p m zero = ap (after p) (sym (add-zero m))
 after-after p m (suc n) = ap advanced (after-after p m n) ∙ ap (after p) (sym (add-suc m n))
 
-pub blocks-join : (p : Player) (a b : List ℤ) → playOutcome p (a ++ b)
-    ≡ (playOutcome (playOutcome p a .0 .player) b .0, playOutcome p a .1 ++ playOutcome (playOutcome p a .0 .player) b .1)
+-- a block more
+abbrev pub more : Played × List ℤ → List ℤ → Played × List ℤ
+more r b = let q = playOutcome (r .0 .player) b in (q .0, r .1 ++ q .1)
+
+pub blocks-join : (p : Player) (a b : List ℤ) → playOutcome p (a ++ b) ≡ more (playOutcome p a) b
 blocks-join p a b = elim (ℕ-discrete (first (stepChecks p)) 0) [
   | yes h ↦ accepts h
   | no h ↦ block-refused p (a ++ b) h
       ∙ ap (λ (r : Played × List ℤ). (r .0, a ++ r .1)) (sym (block-refused p b h))
-      ∙ ap (λ (r : Played × List ℤ). (playOutcome (r .0 .player) b .0, r .1 ++ playOutcome (r .0 .player) b .1)) (sym (block-refused p a h))
+      ∙ ap (λ (r : Played × List ℤ). more r b) (sym (block-refused p a h))
 ]
   where
-    accepts : first (stepChecks p) ≡ 0 → playOutcome p (a ++ b)
-        ≡ (playOutcome (playOutcome p a .0 .player) b .0, playOutcome p a .1 ++ playOutcome (playOutcome p a .0 .player) b .1)
+    accepts : first (stepChecks p) ≡ 0 → playOutcome p (a ++ b) ≡ more (playOutcome p a) b
     accepts h =
         let m = length a in
         let n = length b in
         let q = after p m in
         let next = passes-step q (after-playable p (playable p h) m) in
-        let later : (k : ℕ) → signAfter p (m + k) ≡ signAfter q k = λ k. ap (λ (s : Player). sign (s .window % 2)) (sym (after-after p m k)) in
         block-accepted p (a ++ b) h
         ∙ ap (λ (k : ℕ). (record { answer = 0; player = after p k }, table k (signAfter p))) (length-append a b)
         ∙ ap₂ (λ (s : Player) (l : List ℤ). (record { answer = 0; player = s }, l)) (sym (after-after p m n))
-        (table-join m n (signAfter p) ∙ ap (λ (l : List ℤ). table m (signAfter p) ++ l) (table-ext n (λ k _. later k)))
+        (table-join m n (signAfter p)
+        ∙ ap (λ (l : List ℤ). table m (signAfter p) ++ l) (table-ext n (λ k _. ap (λ (s : Player). sign (s .window % 2)) (sym (after-after p m k)))))
         ∙ ap (λ (r : Played × List ℤ). (r .0, table m (signAfter p) ++ r .1)) (sym (block-accepted q b next))
-        ∙ ap (λ (r : Played × List ℤ). (playOutcome (r .0 .player) b .0, r .1 ++ playOutcome (r .0 .player) b .1)) (sym (block-accepted p a h))
+        ∙ ap (λ (r : Played × List ℤ). more r b) (sym (block-accepted p a h))
 
 -- ---- from any place of the sequence, at any count
 
@@ -138,7 +141,8 @@ module _ (N taps : ℕ) (s : Shaped N taps) where
   after-counted j c zero = ap₂ (counted N taps) (sym (add-zero j)) (sym (add-zero c))
   after-counted j c (suc k) =
       ap advanced (after-counted j c k)
-      ∙ ap (λ (n : ℕ). record { order = N; taps = taps; window = window N taps (suc (j + k)); count = n }) (mod-add-mod (c + k) (2 ^ 32) 1 ∙ ap (λ n. n % 2 ^ 32) (add-one (c + k)))
+      ∙ ap (λ (n : ℕ). record { order = N; taps = taps; window = window N taps (suc (j + k)); count = n })
+      (mod-add-mod (c + k) (2 ^ 32) 1 ∙ ap (λ n. n % 2 ^ 32) (add-one (c + k)))
       ∙ ap₂ (counted N taps) (sym (add-suc j k)) (sym (add-suc c k))
 
   pub block-at : (j c : ℕ) (signs : List ℤ) → playOutcome (counted N taps j c) signs
