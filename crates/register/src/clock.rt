@@ -144,3 +144,12 @@ pub fn play(player: Player, signs: &mut [i8]) -> Played
         player: fill_signs(player, signs),
     }
 }
+
+// A block where the caller holds the player: 0, or the refusal.
+pub fn fill(player: &mut Player, signs: &mut [i8]) -> u32
+    ensures { λ r. ⌜ playOutcome (now (player .entry)) (now (signs .entry)) ≡ (record { answer = r; player = now (player .exit) }, now (signs .exit)) ⌝ }
+{
+    let played = play(*player, signs);
+    *player = played.player;
+    played.answer
+}

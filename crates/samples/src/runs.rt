@@ -1,5 +1,6 @@
 // Runs of a player: what it begins as, its signs, and what it ends as.
 use crate::held::clocked;
+use crate::held::filled;
 use crate::print::line_end;
 use crate::print::mark;
 use crate::print::marks;
@@ -11,7 +12,6 @@ use register::NewPlayer;
 use register::Player;
 use register::Tick;
 use register::clock::new_player;
-use register::clock::play;
 use register::taps::default_taps;
 ghost use Prim.Native.Nat.{_≤_, _<_};
 
@@ -57,7 +57,7 @@ fn least(a: usize, b: usize) -> usize
 
 // The next block on a line: the player after it.
 fn block_line(player: Player, signs: &mut [i8]) -> Player {
-    let played = play(player, signs);
+    let played = filled(player, signs);
     if played.answer == 0 {
         marks(signs);
     } else {
