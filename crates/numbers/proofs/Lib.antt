@@ -1,4 +1,3 @@
 -- The laws of the program's own numbers.
 mod Below
 mod Folding
-mod Filling
