@@ -1,4 +1,6 @@
 // The lines of every order's prediction and of its response, and of the loudest recordings.
+use crate::signals::fill_pattern;
+use crate::signals::fill_turns;
 use lines::digest::digest_samples;
 use lines::digest::digest_scaled;
 use lines::digest::digest_wide;
@@ -6,8 +8,6 @@ use lines::print::line_end;
 use lines::print::number;
 use lines::print::three;
 use lines::print::word;
-use crate::signals::fill_pattern;
-use crate::signals::fill_turns;
 use register::DefaultTaps;
 use register::shift::full_period;
 use register::taps::default_taps;

@@ -62,7 +62,7 @@ maximal-period N taps t = (
 
 -- ---- the checks 1, 2 and 3
 
-from-passed : (N taps : ℕ) → orderOut N ≡ false → tapsOut N taps ≡ false → tapClear taps ≡ false → Shaped N taps
+pub from-passed : (N taps : ℕ) → orderOut N ≡ false → tapsOut N taps ≡ false → tapClear taps ≡ false → Shaped N taps
 from-passed N taps one two three =
     let order = or-false (ltb N 2) (ltb 16 N) one in
     let l = ltb-false N 2 (order .0) in

@@ -8,6 +8,8 @@ pub mod Correlation
 pub mod Judged
 pub mod TagReturn
 pub mod Certificate
+pub mod Playable
 pub mod Playing
+pub mod Blocks
 pub mod Sequences
 mod Defaults

@@ -1,18 +1,15 @@
 -- A new player's window, sign and count after k steps are those of place k, the count modulo 2^32, for any taps with tap 0 set, maximal or
 -- not. The count modulo P is not the place once it has wrapped: at order 3, after 2^32 steps, it says 0 and the place is 4. Assumes nothing.
 use mathlib.Core.Path.{_≡_, refl, ap, _∙_}
-use mathlib.Core.List.{[], _∷_}
 use Prim.Native.Nat.{ℕ, zero, suc, _+_, _%_, _^_, _<_}
 use native.Mathlib.Nat.{mod-eq-of-lt, mod-add-mod}
 use native.Mathlib.Numerals.{add-one}
 use native.Mathlib.Omega.{arith}
-use borrow.Author.Tests.{ne-eqb, lt-leb}
 use lib.Count.{ones}
 use Rattle.sums.specs.Sum.{sign}
 use Rattle.sums.specs.Refusals.{first}
-use Rattle.sums.proofs.First.{passed-first}
 use Rattle.register.specs.Register.{dot, step, window, wave, bit, P, Shaped, Generator}
-use Rattle.register.specs.Calls.{shapeChecks, stepChecks, windowOut, onward, freshPlayer, newOutcome, stepOutcome}
+use Rattle.register.specs.Calls.{stepChecks, onward, freshPlayer, newOutcome, stepOutcome}
 use Rattle.register.specs.declared.Player.{Player}
 use Rattle.register.specs.declared.NewPlayer.the-variants.{Ready}
 use Rattle.register.specs.declared.Tick.the-variants.{Sign}
@@ -20,6 +17,7 @@ use Rattle.register.proofs.Windows.{window-lt}
 use Rattle.register.proofs.Orbit.{window-pos, window-rounds}
 use Rattle.register.proofs.Judged.{passes-shape}
 use Rattle.register.proofs.Certificate.{certify}
+use Rattle.register.proofs.Playable.{passes-step}
 
 -- ---- the count
 
@@ -46,8 +44,7 @@ module _ (N taps : ℕ) (s : Shaped N taps) where
 
   goes : (k : ℕ) → first (stepChecks (placed N taps k)) ≡ 0
   goes k =
-      passed-first (shapeChecks N taps) ((16, windowOut N (window N taps k)) ∷ []) tt (passes-shape N taps s)
-      ∙ simp (ne-eqb (window N taps k) 0 (window-pos N taps (s .tapped) k), lt-leb (2 ^ N) (window N taps k) (window-lt N taps k))
+      passes-step (placed N taps k) (record { shaped = s; some = window-pos N taps (s .tapped) k; fits = window-lt N taps k })
 
   -- a step from place k gives the sign of place k, and leads to place k + 1
   pub gives : (k : ℕ) → stepOutcome (placed N taps k) .tick ≡ Sign (wave N taps k)

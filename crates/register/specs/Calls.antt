@@ -2,8 +2,9 @@
 -- and register", "Refusal numbers" and "Order of checks". Assumes nothing.
 use mathlib.Core.List.{List, [], _∷_, _++_}
 use mathlib.Core.Bool.{Bool, true, false, cond, not, _||_}
-use Prim.Native.Nat.{ℕ, _+_, _%_, _^_}
+use Prim.Native.Nat.{ℕ, zero, suc, _+_, _%_, _^_}
 use lib.Dec.{eqb, ltb, leb}
+use lib.IntN.{ℤ}
 use lib.ListN.{length}
 use Rattle.sums.specs.Sum.{sign}
 use Rattle.sums.specs.Lists.{table, put}
@@ -15,6 +16,7 @@ use Rattle.register.specs.declared.NewPlayer.the-variants as new
 use Rattle.register.specs.declared.Tick.{Tick}
 use Rattle.register.specs.declared.Tick.the-variants as tick
 use Rattle.register.specs.declared.Stepped.{Stepped}
+use Rattle.register.specs.declared.Played.{Played}
 use Rattle.register.specs.declared.DefaultTaps.{DefaultTaps}
 use Rattle.register.specs.declared.DefaultTaps.the-variants as default
 
@@ -115,6 +117,22 @@ unfoldable pub stepOutcome : Player → Stepped
 stepOutcome p =
     outcome (stepChecks p) (λ n. record { tick = tick.Refused n; player = p })
     (record { tick = tick.Sign (sign (p .window % 2)); player = advanced p })
+
+-- ---- a block of signs: the player step's checks; the answer and the player, and a sign at each place
+
+-- the player after k steps
+unfoldable pub after : Player → ℕ → Player
+after p zero = p
+after p (suc k) = advanced (after p k)
+
+-- the sign that it gives then
+abbrev pub signAfter : Player → ℕ → ℤ
+signAfter p k = sign (after p k .window % 2)
+
+unfoldable pub playOutcome : Player → List ℤ → Played × List ℤ
+playOutcome p signs =
+    outcome (stepChecks p) (λ n. (record { answer = n; player = p }, signs))
+    (record { answer = 0; player = after p (length signs) }, table (length signs) (signAfter p))
 
 -- ---- this paper's number for each case of an answer
 

@@ -42,3 +42,9 @@ pub struct Stepped {
     pub tick: Tick,
     pub player: Player,
 }
+
+// What a block of signs gives: 0 or the refusal's number, and the player as it is after it.
+pub struct Played {
+    pub answer: u32,
+    pub player: Player,
+}

@@ -1,14 +1,14 @@
 -- A table of a function's values, put in the place of a list's first: how long it is, what stands at each place, and how a loop
 -- writes it from the front. Assumes nothing.
 use mathlib.Core.Path.{_≡_, refl, sym, ap, ap₂, _∙_}
-use mathlib.Core.List.{List, [], _∷_, _++_}
+use mathlib.Core.List.{List, [], _∷_, _++_, append-nil}
 use Prim.Native.Nat.{ℕ, zero, suc, _+_, _-_, _≤_, _<_}
-use native.Mathlib.Nat.{not-suc-le-zero, le-of-suc-le-suc}
+use native.Mathlib.Nat.{not-suc-le-zero, le-of-suc-le-suc, zero-add, suc-add}
 use native.Mathlib.Numerals.{add-one}
 use native.Mathlib.Decide.{decLt, ℕ-discrete}
 use native.Mathlib.Omega.{arith}
 use lib.ListN.{length, getD, set, drop, length-append, length-drop, length-set, List·getD-append}
-use lib.Seq.{ext-getD, getD-drop, getD-append-add, getD-set-same, getD-set-other}
+use lib.Seq.{ext-getD, drop-length, getD-drop, getD-append-add, getD-set-same, getD-set-other}
 use Rattle.sums.specs.Lists.{table, put}
 
 module _ {A : Type 0} where
@@ -27,6 +27,14 @@ module _ {A : Type 0} where
   unfolding table
   table-ext zero h = refl
   table-ext (suc n) h = ap₂ _∷_ (h 0 (omega arith)) (table-ext n (λ i k. h (suc i) (omega arith)))
+
+  pub table-join : (m n : ℕ) (f : ℕ → A) → table (m + n) f ≡ table m f ++ table n (λ i. f (m + i))
+  unfolding table
+  table-join zero n f = ap (λ k. table k f) (zero-add n) ∙ table-ext n (λ i _. ap f (sym (zero-add i)))
+  table-join (suc m) n f =
+      ap (λ k. table k f) (suc-add m n)
+      ∙ ap (λ t. f 0 ∷ t) (table-join m n (λ i. f (suc i)))
+      ∙ ap (λ t. table (suc m) f ++ t) (table-ext n (λ i _. ap f (sym (suc-add m i))))
 
   pub length-put : (vs l : List A) → length vs ≤ length l → length (put vs l) ≡ length l
   unfolding put
@@ -58,6 +66,11 @@ module _ {A : Type 0} where
 
   pub written-length : {n : ℕ} {f : ℕ → A} {d s : List A} → Written n f d s → n ≤ length d → length s ≡ length d
   written-length {n} {f} {d} w h = rw (w .is) (length-put (table n f) d (omega (arith, length-table n f)))
+
+  -- every place is written
+  pub written-all : {n : ℕ} {f : ℕ → A} {d s : List A} → Written n f d s → n ≡ length d → s ≡ table (length d) f
+  written-all {n} {f} {d} w e =
+      rw e at (w .is) ∙ put-table (length d) f d ∙ ap (λ t. table (length d) f ++ t) (drop-length d) ∙ append-nil (table (length d) f)
 
   -- ---- by places
 

@@ -52,13 +52,7 @@ fn verdict_words(verdict: Verdict) {
     }
 }
 
-pub fn enter_line(
-    c: Campaign,
-    store: &mut [i32],
-    sums: &mut [i64],
-    d: u32,
-    y: &[i32],
-) -> Campaign {
+pub fn enter_line(c: Campaign, store: &mut [i32], sums: &mut [i64], d: u32, y: &[i32]) -> Campaign {
     let done = enter(c, store, sums, d, y);
     let entry = done.entry;
     word(b"enter");

@@ -16,7 +16,7 @@ fn sample(i: usize, j: usize) -> i32
     n as i32 - 8388606
 }
 
-fn sounding(y: &mut [i32], i: usize) 
+fn sounding(y: &mut [i32], i: usize)
     requires { ⌜ (i ≤ 731) × (length (now y) ≤ 512) ⌝ }
 {
     let mut j = 0;

@@ -55,8 +55,32 @@ fn short_rooms(
     requires { ⌜ (length (now room) ≡ 600) × (length (now tags) ≡ 1100) ⌝ }
 {
     let few = 2 * period - 1;
-    response_line(c, store, sums, r, mean, room, tags, period - 1, 600, 600, 1100);
-    response_line(c, store, sums, r, mean, room, tags, 600, period - 1, 600, 1100);
+    response_line(
+        c,
+        store,
+        sums,
+        r,
+        mean,
+        room,
+        tags,
+        period - 1,
+        600,
+        600,
+        1100,
+    );
+    response_line(
+        c,
+        store,
+        sums,
+        r,
+        mean,
+        room,
+        tags,
+        600,
+        period - 1,
+        600,
+        1100,
+    );
     response_line(c, store, sums, r, mean, room, tags, 600, 600, period, 1100);
     response_line(c, store, sums, r, mean, room, tags, 600, 600, 600, few);
     summary_line(c, store, sums, room, tags, period, 1100);

@@ -8,8 +8,7 @@ use lib.ListN.{length}
 use mir.Syntax.{w32}
 use mir.Facts.{toZ-ofZ, toZ-pos}
 use Rattle.sums.proofs.Bound.{small-fits, natAbs-sub}
-use Rattle.sums.proofs.Tables.{Written, written-none, written-more, written-length}
-use Rattle.numbers.proofs.Filling.{written-all}
+use Rattle.sums.proofs.Tables.{Written, written-none, written-more, written-length, written-all}
 use Rattle.numbers.specs.Signals.{pattern}
 use Rattle.numbers.proofs.signals.fill_pattern.Statement.{statement}
 use Rattle.numbers.proofs.signals.fill_pattern.Tie as tie

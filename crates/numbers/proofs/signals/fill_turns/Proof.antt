@@ -7,8 +7,7 @@ use mir.Syntax.{w32}
 use mir.Val.{toZ}
 use mir.Facts.{toZ-ofZ}
 use Rattle.sums.proofs.Bound.{read}
-use Rattle.sums.proofs.Tables.{Written, written-none, written-more, written-length}
-use Rattle.numbers.proofs.Filling.{written-all}
+use Rattle.sums.proofs.Tables.{Written, written-none, written-more, written-length, written-all}
 use Rattle.numbers.specs.Signals.{turns}
 use Rattle.numbers.proofs.signals.fill_turns.Statement.{statement}
 use Rattle.numbers.proofs.signals.fill_turns.Tie as tie

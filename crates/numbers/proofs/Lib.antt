@@ -1,2 +1,0 @@
--- The laws of the program's own numbers.
-mod Filling

@@ -1,0 +1,30 @@
+// A player that a caller holds: lent to the register for a clock, and for a block.
+use register::Played;
+use register::Player;
+use register::Stepped;
+use register::clock::advance;
+use register::clock::fill;
+ghost use mathlib.Core.Path.{_≡_};
+ghost use Rattle.register.specs.Calls.{stepOutcome, playOutcome};
+
+pub fn clocked(player: Player) -> Stepped
+    ensures { λ r. ⌜ r ≡ stepOutcome player ⌝ }
+{
+    let mut held = player;
+    let tick = advance(&mut held);
+    Stepped {
+        tick: tick,
+        player: held,
+    }
+}
+
+pub fn filled(player: Player, signs: &mut [i8]) -> Played
+    ensures { λ r. ⌜ (r, now (signs .exit)) ≡ playOutcome player (now (signs .entry)) ⌝ }
+{
+    let mut held = player;
+    let answer = fill(&mut held, signs);
+    Played {
+        answer: answer,
+        player: held,
+    }
+}
