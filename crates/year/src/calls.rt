@@ -16,6 +16,7 @@ use lines::print::line_end;
 use lines::print::number;
 use lines::print::word;
 use records::Campaign;
+ghost use mathlib.Core.Path.{_≡_};
 ghost use Prim.Native.Nat.{_≤_};
 ghost use lib.ListN.{length};
 
@@ -55,9 +56,10 @@ fn verdict_words(verdict: Verdict) {
 pub fn enter_line(c: Campaign, store: &mut [i32], sums: &mut [i64], d: u32, y: &[i32]) -> Campaign {
     let done = enter(c, store, sums, d, y);
     let entry = done.entry;
+    let verdict = entry.verdict;
     word(b"enter");
     number(entry.day as u64);
-    verdict_words(entry.verdict);
+    verdict_words(verdict);
     line_end();
     done.campaign
 }
@@ -169,4 +171,36 @@ pub fn memory_line(store: &[i32], sums: &[i64]) {
     number(digest_samples(store));
     number(digest_wide(sums));
     line_end();
+}
+
+// Counts, a response and a summary, with all the room there is.
+pub fn answers(
+    c: Campaign,
+    store: &[i32],
+    sums: &[i64],
+    r: &mut [i64],
+    mean: &mut [i32],
+    room: &mut [i64],
+    tags: &mut [u16],
+)
+    requires { ⌜ (length (now r) ≡ 600) × (length (now mean) ≡ 600) × (length (now room) ≡ 600) × (length (now tags) ≡ 1100) ⌝ }
+{
+    counts_line(c, store, sums);
+    response_line(c, store, sums, r, mean, room, tags, 600, 600, 600, 1100);
+    summary_line(c, store, sums, room, tags, 600, 1100);
+}
+
+pub fn ask(
+    c: Campaign,
+    store: &[i32],
+    sums: &[i64],
+    r: &mut [i64],
+    mean: &mut [i32],
+    room: &mut [i64],
+    tags: &mut [u16],
+)
+    requires { ⌜ (length (now r) ≡ 600) × (length (now mean) ≡ 600) × (length (now room) ≡ 600) × (length (now tags) ≡ 1100) ⌝ }
+{
+    answers(c, store, sums, r, mean, room, tags);
+    memory_line(store, sums);
 }

@@ -3,9 +3,9 @@ mod calls;
 mod memory;
 mod nights;
 mod refusing;
+mod signals;
 mod visits;
 
-use records::filing::blank;
 use visits::campaign_lines;
 
 fn main() {
@@ -17,7 +17,10 @@ fn main() {
     let mut room: [i64; 600] = [0; 600];
     let mut tags: [u16; 1100] = [0; 1100];
     campaign_lines(
-        blank(3, 3, 5),
+        3,
+        3,
+        5,
+        7,
         6,
         &mut store,
         &mut sums,
@@ -28,7 +31,10 @@ fn main() {
         &mut tags,
     );
     campaign_lines(
-        blank(9, 17, 48),
+        9,
+        17,
+        48,
+        511,
         60,
         &mut store,
         &mut sums,

@@ -38,18 +38,42 @@ fn rail(i: usize) -> i32 {
     if i % 2 == 0 { -8388608 } else { 8388607 }
 }
 
+fn place_of(i: usize, n: usize) -> usize
+    requires { ⌜ 0 < n ⌝ }
+    ensures { λ r. ⌜ r < n ⌝ }
+{
+    i % n
+}
+
+fn overload(y: &mut [i32], i: usize)
+    requires { ⌜ 0 < length (now y) ⌝ }
+{
+    let place = place_of(i, y.len());
+    let last = y.len() - 1;
+    y[place] = rail(i);
+    y[last] = 8388607;
+}
+
+fn level(i: usize) -> i32 {
+    (i % 200) as i32 - 100
+}
+
+fn overload_some(y: &mut [i32], i: usize)
+    requires { ⌜ 0 < length (now y) ⌝ }
+{
+    if i % 11 == 3 {
+        overload(y, i);
+    }
+}
+
 // The recording of visit i: as a rule kept, now and then overloaded or dead.
 pub fn record_night(y: &mut [i32], i: usize)
     requires { ⌜ (i ≤ 731) × (0 < length (now y)) × (length (now y) ≤ 512) ⌝ }
 {
-    sounding(y, i);
-    if i % 11 == 3 {
-        let place = i % y.len();
-        let last = y.len() - 1;
-        y[place] = rail(i);
-        y[last] = 8388607;
-    }
     if i % 11 == 7 {
-        silent(y, (i % 200) as i32 - 100);
+        silent(y, level(i));
+        return;
     }
+    sounding(y, i);
+    overload_some(y, i);
 }

@@ -1,50 +1,60 @@
+-- `lines::digest::digest_tags` meets its contract: after j turns d is the digest of the first j. Assumes nothing.
+use mathlib.Core.Path.{_≡_, sym, ap, _∙_}
+use mathlib.Core.List.{List}
+use Prim.Native.Nat.{ℕ, _-_, _≤_}
+use native.Mathlib.Omega.{arith}
+use lib.IntN.{ℤ, pos}
+use lib.ListN.{length, getD}
+use mir.Syntax.{w64}
+use mir.Facts.{toZ-ofZ}
+use Rattle.lines.specs.Digest.{digest}
+use Rattle.lines.proofs.Folding.{digest-none, digest-lt, digest-more}
 use Rattle.lines.proofs.digest.digest_tags.Statement.{statement}
 use Rattle.lines.proofs.digest.digest_tags.Tie as tie
-use Rattle.lines.proofs.digest.digest_tags.Reads as reads
-use Rattle.lines.proofs.digest.digest_tags.Lts as lts
-use Rattle.lines.proofs.digest.fold.Reads as fold-reads
+
+abbrev tag : List ℕ → ℕ → ℤ
+tag v j = pos (getD v j 0)
 
 abbrev Inv-loop : tie.InvT-loop
-Inv-loop v d₀ j₀ d j = ?
+Inv-loop v d₀ j₀ d j = (j ≤ length v) × (d ≡ digest j (tag v))
 
 abbrev μ-loop : tie.MeasureT-loop
-μ-loop v d₀ j₀ d j = ?
+μ-loop v d₀ j₀ d j = length v - j
 
--- src/digest.rt:69:5
 loop-holds : tie.Need-loop-holds Inv-loop μ-loop
-loop-holds c = ?
+loop-holds c = (omega arith, sym (digest-none (tag (c .before .args .v .now))))
 
--- src/digest.rt:70:21
 mul-fold : tie.Need-mul-fold Inv-loop μ-loop
-mul-fold c = ?
+mul-fold c = omega arith
 
--- src/digest.rt:70:21
 shared-slice-read-fold : tie.Need-shared-slice-read-fold Inv-loop μ-loop
-shared-slice-read-fold c = ?
+shared-slice-read-fold c = omega arith
 
--- src/digest.rt:70:21
 cast-fold : tie.Need-cast-fold Inv-loop μ-loop
-cast-fold c = ?
+cast-fold c = record { sfits = omega (arith, c .shared-slice-known2 .given (c .before .before .loop .j)) }
 
--- src/digest.rt:70:9
 fold-requires : tie.Need-fold-requires Inv-loop μ-loop
-fold-requires c κs = ?
+fold-requires c κs =
+    let l = c .before .before .loop in
+    rw (l .inv .1) (digest-lt (l .j) (tag (c .before .before .before .before .args .v .now)))
 
--- src/digest.rt:71:9
 add-j : tie.Need-add-j Inv-loop μ-loop
-add-j c = ?
+add-j c = omega arith
 
--- src/digest.rt:69:5
 loop-less : tie.Need-loop-less Inv-loop μ-loop
-loop-less c = ?
+loop-less c = omega arith
 
--- src/digest.rt:69:5
 loop-again : tie.Need-loop-again Inv-loop μ-loop
-loop-again c = ?
+loop-again c =
+    let v = c .before .before .before .before .before .args .v .now in
+    let l = c .before .before .before .loop in
+    (omega arith, digest-more (tag v) (l .j) (c .fold .ensures .0) (l .inv .1) (toZ-ofZ (cast-fold (c .before))))
 
--- src/digest.rt:64:1
 returns : tie.Need-returns Inv-loop μ-loop
-returns c = ?
+returns c =
+    let v = c .before .before .before .args .v .now in
+    let e : c .before .loop .j ≡ length v = omega arith in
+    c .before .loop .inv .1 ∙ ap (λ n. digest n (tag v)) e
 
 pub digest-tags-spec : {M : Type 1} → statement M
 digest-tags-spec =
