@@ -8,3 +8,4 @@ pub mod EveryRun
 pub mod Undone
 pub mod AsIf
 pub mod Numbers
+pub mod Determined

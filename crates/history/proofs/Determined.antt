@@ -1,0 +1,115 @@
+-- Any two outcomes that a call's contract permits are equal: for every public call of register, response and campaign, what its contract tells
+-- of two ends of one call makes the answers equal, and the record, the player and all memory lent. Assumes nothing.
+use mathlib.Core.Path.{_≡_, sym, ap, _∙_}
+use mathlib.Core.List.{List}
+use Prim.Native.Nat.{ℕ}
+use contract.Lifetimes.{Lfts}
+use borrow.Fn.Kinds.{PK, RK, Dens, Out, endedOf, resT}
+use denote.Ref.{now}
+use denote.Triple.Clauses.{AtExit}
+use lib.IntN.{ℤ}
+use Rattle.register.specs.Calls.{stepOutcome, playOutcome}
+use Rattle.register.specs.declared.DefaultTaps.{DefaultTaps}
+use Rattle.register.specs.declared.NewPlayer.{NewPlayer}
+use Rattle.register.specs.declared.Player.{Player}
+use Rattle.register.specs.declared.Played.{Played}
+use Rattle.register.specs.declared.Stepped.{Stepped}
+use Rattle.register.specs.declared.Tick.{Tick}
+use Rattle.campaign.specs.declared.Started.{Started}
+use Rattle.campaign.specs.declared.Entered.{Entered}
+use Rattle.campaign.specs.declared.Withdrawn.{Withdrawn}
+use Rattle.campaign.specs.declared.Counts.{Counts}
+use Rattle.campaign.specs.declared.Summary.{Summary}
+use Rattle.register.proofs.taps.check_taps.Kinds as check-taps-kinds
+use Rattle.register.proofs.taps.check_taps.Reads as check-taps
+use Rattle.register.proofs.taps.default_taps.Kinds as default-taps-kinds
+use Rattle.register.proofs.taps.default_taps.Reads as default-taps
+use Rattle.register.proofs.sequence.sequence.Kinds as sequence-kinds
+use Rattle.register.proofs.sequence.sequence.Reads as sequence
+use Rattle.register.proofs.clock.new_player.Kinds as new-player-kinds
+use Rattle.register.proofs.clock.new_player.Reads as new-player
+use Rattle.register.proofs.clock.step_player.Kinds as step-player-kinds
+use Rattle.register.proofs.clock.step_player.Reads as step-player
+use Rattle.register.proofs.clock.play.Kinds as play-kinds
+use Rattle.register.proofs.clock.play.Reads as play
+use Rattle.response.proofs.one_recording.Kinds as one-recording-kinds
+use Rattle.response.proofs.one_recording.Reads as one-recording
+use Rattle.response.proofs.predict.Kinds as predict-kinds
+use Rattle.response.proofs.predict.Reads as predict
+use Rattle.campaign.proofs.starting.start.Kinds as start-kinds
+use Rattle.campaign.proofs.starting.start.Reads as start
+use Rattle.campaign.proofs.entering.enter.Kinds as enter-kinds
+use Rattle.campaign.proofs.entering.enter.Reads as enter
+use Rattle.campaign.proofs.withdrawing.withdraw.Kinds as withdraw-kinds
+use Rattle.campaign.proofs.withdrawing.withdraw.Reads as withdraw
+use Rattle.campaign.proofs.counting.counts.Kinds as counts-kinds
+use Rattle.campaign.proofs.counting.counts.Reads as counts
+use Rattle.campaign.proofs.answering.response.Kinds as response-kinds
+use Rattle.campaign.proofs.answering.response.Reads as response
+use Rattle.campaign.proofs.summing.summary.Kinds as summary-kinds
+use Rattle.campaign.proofs.summing.summary.Reads as summary
+
+-- what a contract permits determines what is seen of the result and of the parameters at the end
+abbrev pub Determined : (n : ℕ) (ps : List (PK n)) (r : RK n) (A : Type 0) → Out n ps r
+    → ((κs : Lfts n) → resT r κs .Denot → AtExit (endedOf n ps r) κs → A) → Type 0
+Determined n ps r A permits seen =
+    (κs : Lfts n) (a : Dens κs ps) (x y : resT r κs .Denot) (s t : AtExit (endedOf n ps r) κs) → permits κs a x s → permits κs a y t
+    → seen κs x s ≡ seen κs y t
+
+-- ---- register
+
+pub check-taps-determined : Determined 0 check-taps-kinds.ps check-taps-kinds.r ℕ check-taps.Learnt (λ κs r s. r)
+check-taps-determined κs a x y s t p q = p ∙ sym q
+
+pub default-taps-determined : Determined 0 default-taps-kinds.ps default-taps-kinds.r DefaultTaps default-taps.Learnt (λ κs r s. r)
+default-taps-determined κs a x y s t p q = p ∙ sym q
+
+pub sequence-determined : Determined 1 sequence-kinds.ps sequence-kinds.r (ℕ × List ℕ) sequence.Learnt (λ κs r s. (r, now (s .1 .1 .0)))
+sequence-determined κs a x y s t p q = p ∙ sym q
+
+pub new-player-determined : Determined 0 new-player-kinds.ps new-player-kinds.r NewPlayer new-player.Learnt (λ κs r s. r)
+new-player-determined κs a x y s t p q = p ∙ sym q
+
+pub step-player-determined : Determined 0 step-player-kinds.ps step-player-kinds.r Stepped step-player.Learnt (λ κs r s. r)
+step-player-determined κs a x y s t p q = p ∙ sym q
+
+pub play-determined : Determined 1 play-kinds.ps play-kinds.r (Played × List ℤ) play.Learnt (λ κs r s. (r, now (s .1 .0)))
+play-determined κs a x y s t p q = p ∙ sym q
+
+-- the two that hold their player behind a reference, of which a contract tells in its own words
+pub advance-determined : (before : Player) (x y : Tick) (s t : Player) → stepOutcome before ≡ record { tick = x; player = s }
+    → stepOutcome before ≡ record { tick = y; player = t } → _≡_ {A = Tick × Player} (x, s) (y, t)
+advance-determined before x y s t p q = ap (λ (o : Stepped). (o .tick, o .player)) (sym p ∙ q)
+
+pub fill-determined : (before : Player) (l : List ℤ) (x y : ℕ) (s t : Player) (m n : List ℤ)
+    → playOutcome before l ≡ (record { answer = x; player = s }, m) → playOutcome before l ≡ (record { answer = y; player = t }, n)
+    → _≡_ {A = ℕ × Player × List ℤ} (x, s, m) (y, t, n)
+fill-determined before l x y s t m n p q = ap (λ (o : Played × List ℤ). (o .0 .answer, o .0 .player, o .1)) (sym p ∙ q)
+
+-- ---- response
+
+pub one-recording-determined : Determined 4 one-recording-kinds.ps one-recording-kinds.r (ℕ × List ℤ × List ℤ × List ℕ) one-recording.Learnt (λ κs r s. (r, now (s .1 .1 .1 .0), now (s .1 .1 .1 .1 .0), now (s .1 .1 .1 .1 .1 .0)))
+one-recording-determined κs a x y s t p q = p ∙ sym q
+
+pub predict-determined : Determined 2 predict-kinds.ps predict-kinds.r (ℕ × List ℤ) predict.Learnt (λ κs r s. (r, now (s .1 .1 .1 .0)))
+predict-determined κs a x y s t p q = p ∙ sym q
+
+-- ---- campaign
+
+pub start-determined : Determined 2 start-kinds.ps start-kinds.r (Started × List ℤ × List ℤ) start.Learnt (λ κs r s. (r, now (s .1 .1 .1 .1 .0), now (s .1 .1 .1 .1 .1 .0)))
+start-determined κs a x y s t p q = p ∙ sym q
+
+pub enter-determined : Determined 3 enter-kinds.ps enter-kinds.r (Entered × List ℤ × List ℤ) enter.Learnt (λ κs r s. (r, now (s .1 .0), now (s .1 .1 .0)))
+enter-determined κs a x y s t p q = p ∙ sym q
+
+pub withdraw-determined : Determined 2 withdraw-kinds.ps withdraw-kinds.r (Withdrawn × List ℤ × List ℤ) withdraw.Learnt (λ κs r s. (r, now (s .1 .0), now (s .1 .1 .0)))
+withdraw-determined κs a x y s t p q = p ∙ sym q
+
+pub counts-determined : Determined 2 counts-kinds.ps counts-kinds.r Counts counts.Learnt (λ κs r s. r)
+counts-determined κs a x y s t p q = p ∙ sym q
+
+pub response-determined : Determined 6 response-kinds.ps response-kinds.r (ℕ × List ℤ × List ℤ × List ℤ × List ℕ) response.Learnt (λ κs r s. (r, now (s .1 .1 .1 .0), now (s .1 .1 .1 .1 .0), now (s .1 .1 .1 .1 .1 .0), now (s .1 .1 .1 .1 .1 .1 .0)))
+response-determined κs a x y s t p q = p ∙ sym q
+
+pub summary-determined : Determined 4 summary-kinds.ps summary-kinds.r (Summary × List ℤ × List ℕ) summary.Learnt (λ κs r s. (r, now (s .1 .1 .1 .0), now (s .1 .1 .1 .1 .0)))
+summary-determined κs a x y s t p q = p ∙ sym q
