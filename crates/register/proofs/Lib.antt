@@ -7,6 +7,7 @@ pub mod Orbit
 pub mod Correlation
 pub mod Judged
 pub mod TagReturn
+pub mod Divisors
 pub mod Certificate
 pub mod Playable
 pub mod Playing

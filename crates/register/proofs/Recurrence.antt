@@ -38,7 +38,7 @@ min-mul zero q hp hq = omega arith
 min-mul (suc zero) q hp hq = omega arith
 min-mul (suc (suc p)) q hp hq = omega arith
 
-bit-lt : (w i : ℕ) → bitOf w i < 2
+pub bit-lt : (w i : ℕ) → bitOf w i < 2
 bit-lt w i = mod-lt (w / 2 ^ i) (zero-lt-suc 1)
 
 -- the parity of the common bits, bit by bit

@@ -12,15 +12,20 @@ use lib.Dec.{eqb}
 use lib.IntN.{pos, natAbs}
 use lib.Pow.{pow-pos, pow-lt}
 use Rattle.sums.specs.Sum.{sum, sign}
+use Rattle.sums.specs.Lists.{seek}
 use Rattle.sums.proofs.Perm.{Permutes, hits, Visits, visits-all}
 use Rattle.sums.proofs.Seek.{First, seek-first, first-unique}
 use Rattle.sums.proofs.Sum.{sum-ext, sum-one}
-use Rattle.register.specs.Register.{P, dot, step, window, bit, tag-step, tag, tagPeriod, Tapped, Maximal, Generator}
+use Rattle.register.specs.Register.{P, dot, step, window, bit, tag-step, tag, Tapped, Maximal, Generator}
 use Rattle.register.proofs.Dot.{dot-lt, dot-one, dot-xor}
 use Rattle.register.proofs.Windows.{step-lt, step-inj, window-lt, tag-lt, adjoint, ahead}
 use Rattle.register.proofs.Recurrence.{window-bit}
 use Rattle.register.proofs.Orbit.{window-pos}
 use Rattle.register.proofs.Correlation.{balanced, bits-ext, bit-none, xor-pos, same-window, tag-pos, tags-differ, tags-visit}
+
+-- the number of steps after which the tags first return to the first
+unfoldable pub tagPeriod : ℕ → ℕ → ℕ
+tagPeriod N taps = seek (λ k. eqb (tag N taps k) 1) (P N) 1
 
 -- ---- a number by its parities
 
@@ -33,7 +38,7 @@ no-zero N (suc u) h all =
     let z : 2 ^ N ≡ 0 = ap natAbs (sym all-signs ∙ balanced N (suc u) (omega arith) h) in
     absurd (omega (arith, pow-pos N))
 
-same-dots : (N l m : ℕ) → l < 2 ^ N → m < 2 ^ N → ((v : ℕ) → v < 2 ^ N → dot l v ≡ dot m v) → l ≡ m
+pub same-dots : (N l m : ℕ) → l < 2 ^ N → m < 2 ^ N → ((v : ℕ) → v < 2 ^ N → dot l v ≡ dot m v) → l ≡ m
 same-dots N l m hl hm all = elim (ℕ-discrete l m) [
   | yes e ↦ e
   | no n ↦ absurd (apart (xor-pos l m n) (no-zero N (bitXor l m) (xor-lt N l m hl hm) (λ v h. dot-xor l m v ∙ even (dot l v) (dot m v) (dot-lt l v) (all v h))))
@@ -65,7 +70,7 @@ module _ (N taps : ℕ) (t : Tapped N taps) where
   tag-back (suc i) d e =
       tag-back i d (tag-step-inj (tag N taps i) (tag N taps (i + d)) (tag-lt N taps t i) (tag-lt N taps t (i + d)) (e ∙ ap (tag N taps) (suc-add i d)))
 
-  sought : First (λ k. eqb (tag N taps k) 1) (P N) 1 (tagPeriod N taps)
+  pub sought : First (λ k. eqb (tag N taps k) 1) (P N) 1 (tagPeriod N taps)
   unfolding tagPeriod
   sought = seek-first (λ k. eqb (tag N taps k) 1) (P N) 1
 

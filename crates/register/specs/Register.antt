@@ -51,10 +51,6 @@ unfoldable pub tag : ℕ → ℕ → ℕ → ℕ
 tag N taps zero = 1
 tag N taps (suc m) = tag-step N taps (tag N taps m)
 
--- the number of steps after which the tags first return to the first
-unfoldable pub tagPeriod : ℕ → ℕ → ℕ
-tagPeriod N taps = seek (λ k. eqb (tag N taps k) 1) (P N) 1
-
 -- ---- what laws ask of a register
 
 -- taps of a register of order N, tap 0 among them

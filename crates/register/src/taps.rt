@@ -1,29 +1,94 @@
-// Taps: judged by the first return of the tags, which comes after the full period where the register's does; and the default taps.
+// Taps: judged by the first return of the tags, which comes after the full period where the register's does, and is looked for at the divisors of the
+// period alone; and the default taps.
 use crate::DefaultTaps;
 use crate::shift::full_period;
 use crate::shift::tag_step;
 ghost use mathlib.Core.Path.{_≡_};
-ghost use Prim.Native.Nat.{_≤_};
+ghost use mathlib.Core.Bool.{_&&_};
+ghost use Prim.Native.Nat.{_^_, _≤_, _<_};
+ghost use lib.Dec.{eqb};
 ghost use Rattle.sums.specs.Refusals.{first};
-ghost use Rattle.register.specs.Register.{tagPeriod, Tapped};
+ghost use Rattle.register.specs.Register.{P, tag as tagOf, Tapped};
+ghost use Rattle.register.specs.Doubling.{onward, joined, returnsAt, returnsEarly};
 ghost use Rattle.register.specs.Calls.{shapeChecks, tapsAnswer, defaultOutcome};
 
-// The number of steps after which the tags first return to the first; one past the full period where they have not by then.
-fn tag_period(order: u32, taps: u32) -> u32
+// Of the tags of two delays, the tag of both.
+fn join(order: u32, taps: u32, l: u32, m: u32) -> u32
+    requires { ⌜ (order ≤ 16) × Tapped order taps × (m < 2 ^ order) ⌝ }
+    ensures { λ r. ⌜ r ≡ joined order taps l m order ⌝ }
+{
+    let mut sum = 0;
+    let mut tag = m;
+    let mut rest = l;
+    let mut i = 0;
+    while i < order {
+        sum = sum ^ (rest % 2 * tag);
+        tag = tag_step(order, taps, tag);
+        rest = rest / 2;
+        i += 1;
+    }
+    sum
+}
+
+// A tag, one step on where the bit is set.
+fn step_by(order: u32, taps: u32, tag: u32, bit: u32) -> u32
+    requires { ⌜ (order ≤ 16) × (taps < 2 ^ order) × (tag < 2 ^ order) × (bit < 2) ⌝ }
+    ensures { λ r. ⌜ r ≡ onward order taps bit tag ⌝ }
+{
+    if bit == 0 {
+        tag
+    } else {
+        tag_step(order, taps, tag)
+    }
+}
+
+// The tag of a delay, which is doubled bit by bit from the top.
+fn tag_at(order: u32, taps: u32, m: u32) -> u32
+    requires { ⌜ (order ≤ 16) × Tapped order taps × (m < 65536) ⌝ }
+    ensures { λ r. ⌜ r ≡ tagOf order taps m ⌝ }
+{
+    let mut tag = 1;
+    let mut k = 16u32;
+    while 0 < k {
+        k -= 1;
+        tag = step_by(order, taps, join(order, taps, tag, tag), (m >> k) % 2);
+    }
+    tag
+}
+
+// Whether the tags return after m steps, where that is asked.
+fn home(order: u32, taps: u32, m: u32, asked: bool) -> bool
+    requires { ⌜ (order ≤ 16) × Tapped order taps × (m < 65536) ⌝ }
+    ensures { λ r. ⌜ r ≡ asked && eqb (tagOf order taps m) 1 ⌝ }
+{
+    asked && tag_at(order, taps, m) == 1
+}
+
+// Whether d divides P and the tags return after d steps or after P/d, but for P itself.
+fn returns_at(order: u32, taps: u32, whole: u32, d: u32) -> bool
+    requires { ⌜ (order ≤ 16) × Tapped order taps × (whole ≡ P order) × (0 < d) × (d < 256) ⌝ }
+    ensures { λ r. ⌜ r ≡ returnsAt order taps d ⌝ }
+{
+    if whole % d != 0 {
+        return false;
+    }
+    home(order, taps, d, d < whole) || home(order, taps, whole / d, 1 < d)
+}
+
+// Whether the tags return after a divisor of P below it.
+fn returns_early(order: u32, taps: u32) -> bool
     requires { ⌜ (order ≤ 16) × Tapped order taps ⌝ }
-    ensures { λ r. ⌜ r ≡ tagPeriod order taps ⌝ }
+    ensures { λ r. ⌜ r ≡ returnsEarly order taps ⌝ }
 {
     let whole = full_period(order);
-    let mut tag = 1;
-    let mut steps = 0;
-    while steps < whole {
-        tag = tag_step(order, taps, tag);
-        steps += 1;
-        if tag == 1 {
-            return steps;
+    let mut d = 1;
+    while d < 256 {
+        if returns_at(order, taps, whole, d) {
+            return true;
         }
+        d += 1;
     }
-    steps + 1
+    false
 }
 
 // The checks 1, 2 and 3: 0, or the refusal.
@@ -53,7 +118,10 @@ pub fn check_taps(order: u32, taps: u32) -> u32
     if refusal != 0 {
         return refusal;
     }
-    if tag_period(order, taps) != full_period(order) {
+    if tag_at(order, taps, full_period(order)) != 1 {
+        return 4;
+    }
+    if returns_early(order, taps) {
         return 4;
     }
     0

@@ -1,0 +1,238 @@
+-- The tags of two delays join to the tag of both: so the tag of any delay is got by doubling. And the tags first return after P steps exactly
+-- where they return after P and after no smaller divisor of P. Assumes nothing.
+use mathlib.Core.Path.{_≡_, refl, sym, ap, ap₂, _∙_}
+use mathlib.Core.Logic.{_↔_}
+use mathlib.Core.Bool.{Bool, true, false, true≢false, _&&_, _||_}
+use Prim.Native.Nat.{ℕ, zero, suc, _+_, _-_, _*_, _/_, _%_, _^_, _≤_, _<_}
+use native.Mathlib.Nat.{mod-lt, suc-add, add-suc, add-zero, zero-add, add-comm, zero-mul, one-mul, suc-mul, add-assoc, add-mod-mod, mod-add-mod, mul-le-mul, div-add-mod', mul-comm, mod-eq-of-lt, le-of-lt, zero-lt-suc, div-lt-self, mul-div-cancel, mul-mod-left}
+use native.Mathlib.Decide.{ℕ-discrete, decLt}
+use native.Mathlib.Omega.{arith}
+use borrow.Author.Tests.{eqb-true, eqb-false, eq-eqb, ne-eqb, lt-ltb, ltb-true}
+use lib.Bits.{bitXor, xor-lt}
+use lib.Dec.{eqb, ltb}
+use lib.Pow.{pow-pos}
+use Rattle.sums.specs.Sum.{total}
+use Rattle.sums.specs.Lists.{some}
+use Rattle.sums.proofs.Everywhere.{both-true}
+use Rattle.sums.proofs.Seek.{First}
+use Rattle.sums.proofs.Somewhere.{none-of, some-none, some-at}
+use Rattle.sums.proofs.Sum.{total-ext}
+use Rattle.register.specs.Register.{P, bitOf, dot, step, tag-step, tag, Tapped, Maximal}
+use Rattle.register.specs.Doubling.{onward, joined, returnsAt, returnsEarly}
+use Rattle.register.proofs.Dot.{dot-lt, dot-zero, dot-one, dot-xor, dot-times}
+use Rattle.register.proofs.Windows.{step-lt, tag-lt, tag-step-lt, adjoint, bit-mul}
+use Rattle.register.proofs.Recurrence.{bit-zero, bit-lt, dot-total, slide}
+use Rattle.register.proofs.TagReturn.{tagPeriod, same-dots, sought, maximal-by-tags}
+use Rattle.register.proofs.Word.{small}
+
+-- m steps from any window
+unfoldable walk : ℕ → ℕ → ℕ → ℕ → ℕ
+walk N taps zero w = w
+walk N taps (suc m) w = walk N taps m (step N taps w)
+
+-- of bits, the parity of what they have in common is their product
+dot-bits : (s d : ℕ) → s < 2 → d < 2 → dot s d ≡ s * d
+dot-bits zero d hs hd = dot-zero d ∙ sym (zero-mul d)
+dot-bits (suc zero) d hs hd = dot-one d ∙ mod-eq-of-lt hd ∙ sym (one-mul d)
+dot-bits (suc (suc s)) d hs hd = absurd (omega arith)
+
+and-off : (a b : Bool) → (a ≡ true → b ≡ false) → a && b ≡ false
+and-off true b h = h refl
+and-off false b h = refl
+
+module _ (N taps : ℕ) (t : Tapped N taps) where
+  walk-lt : (m w : ℕ) → w < 2 ^ N → walk N taps m w < 2 ^ N
+  unfolding walk
+  walk-lt zero w h = h
+  walk-lt (suc m) w h = walk-lt m (step N taps w) (step-lt N taps w h)
+
+  -- the tag of m reads the bit that goes out after m steps
+  reads : (m w : ℕ) → w < 2 ^ N → dot (tag N taps m) w ≡ walk N taps m w % 2
+  unfolding tag walk
+  reads zero w h = dot-one w
+  reads (suc m) w h = adjoint N taps (tag N taps m) w (tag-lt N taps t m) h ∙ reads m (step N taps w) (step-lt N taps w h)
+
+  -- so does bit i of a window, of those that it holds
+  walk-bit : (i w : ℕ) → i < N → bitOf w i ≡ walk N taps i w % 2
+  unfolding walk
+  walk-bit zero w h = bit-zero w
+  walk-bit (suc i) w h = sym (slide N taps w i h) ∙ walk-bit i (step N taps w) (le-of-lt h)
+
+  walk-on : (b a w : ℕ) → walk N taps a (walk N taps b w) ≡ walk N taps (b + a) w
+  unfolding walk
+  walk-on zero a w = ap (λ k. walk N taps k w) (sym (zero-add a))
+  walk-on (suc b) a w = walk-on b a (step N taps w) ∙ ap (λ k. walk N taps k w) (sym (suc-add b a))
+
+  onward-tag : (i m : ℕ) → onward N taps i (tag N taps m) ≡ tag N taps (m + i)
+  unfolding onward tag
+  onward-tag zero m = ap (tag N taps) (sym (add-zero m))
+  onward-tag (suc i) m = ap (tag-step N taps) (onward-tag i m) ∙ ap (tag N taps) (sym (add-suc m i))
+
+  pub onward-lt : (i m : ℕ) → m < 2 ^ N → onward N taps i m < 2 ^ N
+  unfolding onward
+  onward-lt zero m h = h
+  onward-lt (suc i) m h = tag-step-lt N taps (onward N taps i m) (t .fits) (onward-lt i m h)
+
+  part-lt : (l m i : ℕ) → m < 2 ^ N → bitOf l i * onward N taps i m < 2 ^ N
+  part-lt l m i h = omega (arith, bit-mul (bitOf l i) (onward N taps i m) (bit-lt l i), onward-lt i m h)
+
+  pub joined-lt : (l m k : ℕ) → m < 2 ^ N → joined N taps l m k < 2 ^ N
+  unfolding joined
+  joined-lt l m zero h = pow-pos N
+  joined-lt l m (suc i) h = xor-lt N (joined N taps l m i) (bitOf l i * onward N taps i m) (joined-lt l m i h) (part-lt l m i h)
+
+  dot-joined : (l m k w : ℕ) → dot (joined N taps l m k) w ≡ total k (λ i. bitOf l i * dot (onward N taps i m) w) % 2
+  unfolding joined total
+  dot-joined l m zero w = dot-zero w
+  dot-joined l m (suc k) w =
+      let o = onward N taps k m in
+      dot-xor (joined N taps l m k) (bitOf l k * o) w
+      ∙ ap₂ (λ a b. (a + b) % 2) (dot-joined l m k w)
+      (dot-times (bitOf l k) o w (bit-lt l k) ∙ dot-bits (bitOf l k) (dot o w) (bit-lt l k) (dot-lt o w))
+      ∙ mod-add-mod (total k (λ i. bitOf l i * dot (onward N taps i m) w)) 2 (bitOf l k * dot o w)
+
+  pub joined-tags : (n m : ℕ) → joined N taps (tag N taps n) (tag N taps m) N ≡ tag N taps (m + n)
+  joined-tags n m =
+      same-dots N (joined N taps l (tag N taps m) N) (tag N taps (m + n)) (joined-lt l (tag N taps m) N (tag-lt N taps t m)) (tag-lt N taps t (m + n)) each
+    where
+      l : ℕ
+      l = tag N taps n
+
+      each : (w : ℕ) → w < 2 ^ N → dot (joined N taps (tag N taps n) (tag N taps m) N) w ≡ dot (tag N taps (m + n)) w
+      each w h =
+          dot-joined (tag N taps n) (tag N taps m) N w
+          ∙ ap (λ x. x % 2) (total-ext N (λ i k. ap (λ x. bitOf (tag N taps n) i * x) (bit i k)))
+          ∙ sym (dot-total N (tag N taps n) (walk N taps m w) (walk-lt m w h))
+          ∙ reads n (walk N taps m w) (walk-lt m w h)
+          ∙ ap (λ x. x % 2) (walk-on m n w)
+          ∙ sym (reads (m + n) w h)
+        where
+          bit : (i : ℕ) → i < N → dot (onward N taps i (tag N taps m)) w ≡ bitOf (walk N taps m w) i
+          bit i k =
+              ap (λ x. dot x w) (onward-tag i m) ∙ reads (m + i) w h ∙ ap (λ x. x % 2) (sym (walk-on m i w))
+              ∙ sym (walk-bit i (walk N taps m w) k)
+
+  -- a delay doubled, and one step on by a bit
+  pub doubled : (n b : ℕ) {l j r : ℕ} → l ≡ tag N taps n → j ≡ joined N taps l l N → r ≡ onward N taps b j → r ≡ tag N taps (n + n + b)
+  doubled n b e g h = h ∙ ap (onward N taps b) (g ∙ ap (λ x. joined N taps x x N) e ∙ joined-tags n n) ∙ onward-tag b (n + n)
+
+  -- ---- divisors of P
+
+  -- where the tags return after d steps, they do so after every multiple of d
+  rounds : (d : ℕ) → tag N taps d ≡ 1 → (j : ℕ) → tag N taps (j + d) ≡ tag N taps j
+  unfolding tag
+  rounds d e zero = ap (tag N taps) (zero-add d) ∙ e
+  rounds d e (suc j) = ap (tag N taps) (suc-add j d) ∙ ap (tag-step N taps) (rounds d e j)
+
+  many-rounds : (d : ℕ) → tag N taps d ≡ 1 → (q r : ℕ) → tag N taps (q * d + r) ≡ tag N taps r
+  many-rounds d e zero r = ap (tag N taps) (ap (λ x. x + r) (zero-mul d) ∙ zero-add r)
+  many-rounds d e (suc q) r =
+      let s : suc q * d + r ≡ (q * d + r) + d = omega (arith, suc-mul q d) in
+      ap (tag N taps) s ∙ rounds d e (q * d + r) ∙ many-rounds d e q r
+
+  module _ (small-order : N ≤ 16) where
+    long : 1 ≤ P N
+    long = omega (arith, pow-two N (t .some))
+      where
+        pow-two : (n : ℕ) → 0 < n → 2 ≤ 2 ^ n
+        pow-two zero h = absurd (omega arith)
+        pow-two (suc n) h = omega (arith, pow-pos n)
+
+    -- P is some times each of its divisors
+    whole : (d : ℕ) → P N % d ≡ 0 → P N / d * d ≡ P N
+    whole d z = omega (arith, div-add-mod' (P N) d)
+
+    times : (d : ℕ) → P N % d ≡ 0 → 0 < P N / d
+    times d z = elim (ℕ-discrete (P N / d) 0) [
+      | yes q ↦ absurd (omega (arith, sym (whole d z) ∙ ap (λ x. x * d) q ∙ zero-mul d, long))
+      | no q ↦ omega arith
+    ]
+
+    -- a divisor below P at which they return is found
+    found : (d : ℕ) → 0 < d → d < P N → P N % d ≡ 0 → tag N taps d ≡ 1 → returnsEarly N taps ≡ true
+    found d p l z e = elim (decLt d 256) [
+      | yes s ↦ some-at (λ i. returnsAt N taps (i + 1)) 255 (d - 1) (omega arith) (ap (returnsAt N taps) (back d p) ∙ here)
+      | no s ↦ some-at (λ i. returnsAt N taps (i + 1)) 255 (f - 1) (few s) (ap (returnsAt N taps) (back f (times d z)) ∙ there)
+    ]
+      where
+        f : ℕ
+        f = P N / d
+
+        back : (k : ℕ) → 0 < k → k - 1 + 1 ≡ k
+        back k h = omega arith
+
+        few : (d < 256 → ⊥) → P N / d - 1 < 255
+        few s = elim (decLt (P N / d) 256) [
+          | yes h ↦ omega arith
+          | no h ↦
+              let a : 256 ≤ P N / d = omega arith in
+              let b : 256 ≤ d = omega arith in
+              absurd (omega (arith, mul-le-mul a b, whole d z, small small-order))
+        ]
+
+        more : 1 < P N / d
+        more = elim (ℕ-discrete (P N / d) 1) [
+          | yes q ↦ absurd (omega (arith, sym (whole d z) ∙ ap (λ x. x * d) q ∙ one-mul d))
+          | no q ↦ omega (arith, times d z)
+        ]
+
+        here : returnsAt N taps d ≡ true
+        here = simp (eq-eqb (P N % d) 0 z, lt-ltb d (P N) l, eq-eqb (tag N taps d) 1 e)
+
+        there : returnsAt N taps (P N / d) ≡ true
+        there =
+            let g = P N / d in
+            let m : P N % g ≡ 0 = ap (λ x. x % g) (sym (whole d z) ∙ mul-comm g d) ∙ mul-mod-left d g in
+            let q : P N / g ≡ d = ap (λ x. x / g) (sym (whole d z) ∙ mul-comm g d) ∙ mul-div-cancel d (times d z) in
+            either (ltb g (P N) && eqb (tag N taps g) 1) (eq-eqb (P N % g) 0 m) (both-true (lt-ltb 1 g more) (eq-eqb (tag N taps (P N / g)) 1 (ap (tag N taps) q ∙ e)))
+          where
+            either : {z : Bool} (a : Bool) {b : Bool} → z ≡ true → b ≡ true → z && (a || b) ≡ true
+            either true p q = ap₂ (λ x y. x && (true || y)) p q
+            either false p q = ap₂ (λ x y. x && (false || y)) p q
+
+    -- what is found there is a return before P
+    no-divisor : ((k : ℕ) → 0 < k → k < P N → tag N taps k ≡ 1 → ⊥) → returnsEarly N taps ≡ false
+    no-divisor away = some-none (λ i. returnsAt N taps (i + 1)) 255 (λ i _. none (i + 1) (omega arith))
+      where
+        none : (d : ℕ) → 0 < d → returnsAt N taps d ≡ false
+        none d p = and-off (eqb (P N % d) 0) _ (λ z. ap₂ _||_ low (high (eqb-true (P N % d) 0 z)))
+          where
+            low : ltb d (P N) && eqb (tag N taps d) 1 ≡ false
+            low = and-off (ltb d (P N)) _ (λ l. ne-eqb (tag N taps d) 1 (away d p (ltb-true d (P N) l)))
+
+            high : P N % d ≡ 0 → ltb 1 d && eqb (tag N taps (P N / d)) 1 ≡ false
+            high z = and-off (ltb 1 d) _ (λ l. ne-eqb (tag N taps (P N / d)) 1 (away (P N / d) (times d z) (div-lt-self long (ltb-true 1 d l))))
+
+    pub by-divisors : ((tag N taps (P N) ≡ 1) × (returnsEarly N taps ≡ false)) ↔ (tagPeriod N taps ≡ P N)
+    by-divisors = (to, from)
+      where
+        f : First (λ k. eqb (tag N taps k) 1) (P N) 1 (tagPeriod N taps)
+        f = sought N taps t
+
+        to : (tag N taps (P N) ≡ 1) × (returnsEarly N taps ≡ false) → tagPeriod N taps ≡ P N
+        to h = elim (decLt (tagPeriod N taps) (P N)) [
+          | yes l ↦ absurd (less l)
+          | no a ↦ elim (ℕ-discrete (tagPeriod N taps) (P N)) [
+            | yes e ↦ e
+            | no n ↦ absurd (eqb-false (tag N taps (P N)) 1 (f .before (P N) long (omega arith)) (h .0))
+          ]
+        ]
+          where
+            home : tagPeriod N taps < P N → tag N taps (tagPeriod N taps) ≡ 1
+            home l = eqb-true (tag N taps (tagPeriod N taps)) 1 (f .here (omega arith))
+
+            less : tagPeriod N taps < P N → ⊥
+            less l = elim (ℕ-discrete (P N % tagPeriod N taps) 0) [
+              | yes z ↦ true≢false (sym (found (tagPeriod N taps) (f .from) l z (home l)) ∙ h .1)
+              | no n ↦
+                  eqb-false (tag N taps (P N % tagPeriod N taps)) 1
+                  (f .before (P N % tagPeriod N taps) (omega arith) (mod-lt (P N) (f .from)))
+                  (sym (many-rounds (tagPeriod N taps) (home l) (P N / tagPeriod N taps) (P N % tagPeriod N taps))
+                  ∙ ap (tag N taps) (div-add-mod' (P N) (tagPeriod N taps)) ∙ h .0)
+            ]
+
+        from : tagPeriod N taps ≡ P N → (tag N taps (P N) ≡ 1) × (returnsEarly N taps ≡ false)
+        from e = (
+          ap (tag N taps) (sym e) ∙ eqb-true (tag N taps (tagPeriod N taps)) 1 (f .here (omega arith)),
+          no-divisor (λ k p l. eqb-false (tag N taps k) 1 (f .before k p (omega arith))),
+        )

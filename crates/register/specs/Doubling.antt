@@ -1,0 +1,25 @@
+-- The tag of a delay, got by doubling; and whether the tags return before P steps, looked for at the divisors of P alone. Assumes nothing.
+use mathlib.Core.Bool.{Bool, _&&_, _||_}
+use Prim.Native.Nat.{ℕ, zero, suc, _+_, _*_, _/_, _%_}
+use lib.Bits.{bitXor}
+use lib.Dec.{eqb, ltb}
+use Rattle.sums.specs.Lists.{some}
+use Rattle.register.specs.Register.{P, bitOf, tag-step, tag}
+
+-- i steps on from a tag
+unfoldable pub onward : ℕ → ℕ → ℕ → ℕ → ℕ
+onward N taps zero m = m
+onward N taps (suc i) m = tag-step N taps (onward N taps i m)
+
+-- m moved on by each of the first k bits of l that is set, and added up without carry: of two delays' tags, the tag of both
+unfoldable pub joined : ℕ → ℕ → ℕ → ℕ → ℕ → ℕ
+joined N taps l m zero = 0
+joined N taps l m (suc i) = bitXor (joined N taps l m i) (bitOf l i * onward N taps i m)
+
+-- whether d divides P and the tags return after d steps, or after P/d, but for P itself
+abbrev pub returnsAt : ℕ → ℕ → ℕ → Bool
+returnsAt N taps d = eqb (P N % d) 0 && ((ltb d (P N) && eqb (tag N taps d) 1) || (ltb 1 d && eqb (tag N taps (P N / d)) 1))
+
+-- one of two divisors that go together is below 256
+abbrev pub returnsEarly : ℕ → ℕ → Bool
+returnsEarly N taps = some 255 (λ i. returnsAt N taps (i + 1))
