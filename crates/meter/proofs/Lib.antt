@@ -1,0 +1,3 @@
+-- The laws of the C door.
+mod Copying
+mod Opening

@@ -1,0 +1,18 @@
+// The doors of one recording and of a prediction.
+ghost use mathlib.Core.Path.{_≡_};
+ghost use Rattle.response.specs.Calls.{recordingOutcome};
+
+#[no_mangle]
+pub extern "C" fn meter_recording(
+    order: u32,
+    taps: u32,
+    y: &[i32],
+    out: &mut [i64],
+    room: &mut [i64],
+    tags: &mut [u16],
+) -> u32
+    ensures { λ r. ⌜ (r, now (out .exit), now (room .exit), now (tags .exit))
+        ≡ recordingOutcome order taps (now (y .entry)) (now (out .entry)) (now (room .entry)) (now (tags .entry)) ⌝ }
+{
+    response::one_recording(order, taps, y, out, room, tags)
+}
