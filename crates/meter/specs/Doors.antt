@@ -16,7 +16,13 @@ use Rattle.campaign.specs.declared.Verdict.the-variants as verdict
 use Rattle.campaign.specs.declared.Started.{Started}
 use Rattle.campaign.specs.declared.Entered.{Entered}
 use Rattle.campaign.specs.declared.Withdrawn.{Withdrawn}
-use Rattle.campaign.specs.Calls.{startOutcome, enterOutcome, withdrawOutcome, responseOutcome, verdictNumber}
+use Rattle.campaign.specs.declared.Tally.{Tally}
+use Rattle.campaign.specs.declared.Counts.{Counts}
+use Rattle.campaign.specs.declared.Counts.the-variants as counts
+use Rattle.campaign.specs.declared.Levels.{Levels}
+use Rattle.campaign.specs.declared.Summary.{Summary}
+use Rattle.campaign.specs.declared.Summary.the-variants as summary
+use Rattle.campaign.specs.Calls.{startOutcome, enterOutcome, withdrawOutcome, countsOutcome, responseOutcome, summaryOutcome, verdictNumber, countsNumber, summaryNumber}
 
 -- ---- the record
 
@@ -84,9 +90,42 @@ withdrawDoor N taps C days slots store sums d =
     behind days slots (λ n. (n, days, slots, store, sums))
     (withdrawnOut days slots (withdrawOutcome (recordOf N taps C days slots) store sums d))
 
+-- ---- counts: the answer and the days in each state
+
+abbrev pub tallyOut : Counts → Tally → Tally
+tallyOut (counts.Counted t) was = t
+tallyOut (counts.Refused n) was = was
+
+abbrev pub countedOut : Tally → Counts → ℕ × Tally
+countedOut was c = (countsNumber c, tallyOut c was)
+
+unfoldable pub countsDoor : ℕ → ℕ → ℕ → List ℕ → List ℕ → List ℤ → List ℤ → Tally → ℕ × Tally
+countsDoor N taps C days slots store sums was =
+    behind days slots (λ n. (n, was)) (countedOut was (countsOutcome (recordOf N taps C days slots) store sums))
+
 -- ---- response: the answer, r, the mean, the wide room and the tags
 
 unfoldable pub responseDoor : ℕ → ℕ → ℕ → List ℕ → List ℕ → List ℤ → List ℤ → List ℤ → List ℤ → List ℤ → List ℕ → ℕ × List ℤ × List ℤ × List ℤ × List ℕ
 responseDoor N taps C days slots store sums r mean room tags =
     behind days slots (λ n. (n, r, mean, room, tags))
     (responseOutcome (recordOf N taps C days slots) store sums r mean room tags)
+
+-- ---- summary: the answer, the wide room and the tags, whether some day stands, and the levels, which are written where one does
+
+abbrev pub standsOut : Summary → ℕ → ℕ
+standsOut summary.Nothing was = 0
+standsOut (summary.Measured l) was = 1
+standsOut (summary.Refused n) was = was
+
+abbrev pub levelsOut : Summary → Levels → Levels
+levelsOut summary.Nothing was = was
+levelsOut (summary.Measured l) was = l
+levelsOut (summary.Refused n) was = was
+
+abbrev pub summedOut : ℕ → Levels → Summary × List ℤ × List ℕ → ℕ × List ℤ × List ℕ × ℕ × Levels
+summedOut stood was (s, room, tags) = (summaryNumber s, room, tags, standsOut s stood, levelsOut s was)
+
+unfoldable pub summaryDoor : ℕ → ℕ → ℕ → List ℕ → List ℕ → List ℤ → List ℤ → List ℤ → List ℕ → ℕ → Levels → ℕ × List ℤ × List ℕ × ℕ × Levels
+summaryDoor N taps C days slots store sums room tags stood was =
+    behind days slots (λ n. (n, room, tags, stood, was))
+    (summedOut stood was (summaryOutcome (recordOf N taps C days slots) store sums room tags))

@@ -2,13 +2,17 @@
 use crate::tables::read_record;
 use crate::tables::tables_short;
 use crate::tables::write_record;
+use crate::verdicts::write_counts;
+use crate::verdicts::write_summary;
 use crate::verdicts::write_verdict;
 use campaign::answering::response;
+use campaign::counting::counts;
 use campaign::entering::enter;
 use campaign::starting::start;
+use campaign::summing::summary;
 use campaign::withdrawing::withdraw;
 ghost use mathlib.Core.Path.{_≡_};
-ghost use Rattle.meter.specs.Doors.{startDoor, enterDoor, withdrawDoor, responseDoor};
+ghost use Rattle.meter.specs.Doors.{startDoor, enterDoor, withdrawDoor, countsDoor, responseDoor, summaryDoor};
 
 #[no_mangle]
 pub extern "C" fn meter_start(
@@ -110,4 +114,60 @@ pub extern "C" fn meter_response(
     }
     let c = read_record(order, taps, count, days, slots);
     response(c, store, sums, r, mean, room, tags)
+}
+
+#[no_mangle]
+pub extern "C" fn meter_counts(
+    order: u32,
+    taps: u32,
+    count: u32,
+    days: &[u8],
+    slots: &[u16],
+    store: &[i32],
+    sums: &[i64],
+    unseen: &mut u32,
+    standing: &mut u32,
+    overloaded: &mut u32,
+    dead: &mut u32,
+    withdrawn: &mut u32,
+) -> u32
+    ensures { λ r. ⌜ (r, record { unseen = now (unseen .exit); standing = now (standing .exit); overloaded = now (overloaded .exit); dead = now (dead .exit); withdrawn = now (withdrawn .exit) })
+        ≡ countsDoor order taps count (now (days .entry)) (now (slots .entry)) (now (store .entry)) (now (sums .entry))
+        (record { unseen = now (unseen .entry); standing = now (standing .entry); overloaded = now (overloaded .entry); dead = now (dead .entry); withdrawn = now (withdrawn .entry) }) ⌝ }
+{
+    if tables_short(days.len(), slots.len()) {
+        return 15;
+    }
+    let c = read_record(order, taps, count, days, slots);
+    let counted = counts(c, store, sums);
+    write_counts(counted, unseen, standing, overloaded, dead, withdrawn)
+}
+
+#[no_mangle]
+pub extern "C" fn meter_summary(
+    order: u32,
+    taps: u32,
+    count: u32,
+    days: &[u8],
+    slots: &[u16],
+    store: &[i32],
+    sums: &[i64],
+    room: &mut [i64],
+    tags: &mut [u16],
+    stands: &mut u32,
+    highest: &mut f64,
+    lowest: &mut f64,
+    peak: &mut f64,
+) -> u32
+    ensures { λ x. ⌜ (x, now (room .exit), now (tags .exit), now (stands .exit), record { highest = now (highest .exit); lowest = now (lowest .exit); peak = now (peak .exit) })
+        ≡ summaryDoor order taps count (now (days .entry)) (now (slots .entry)) (now (store .entry)) (now (sums .entry))
+        (now (room .entry)) (now (tags .entry)) (now (stands .entry))
+        (record { highest = now (highest .entry); lowest = now (lowest .entry); peak = now (peak .entry) }) ⌝ }
+{
+    if tables_short(days.len(), slots.len()) {
+        return 15;
+    }
+    let c = read_record(order, taps, count, days, slots);
+    let found = summary(c, store, sums, room, tags);
+    write_summary(found, stands, highest, lowest, peak)
 }
