@@ -4,6 +4,7 @@ pub mod campaign;
 pub mod compare;
 pub mod coverage;
 pub mod damage;
+pub mod door;
 pub mod entering;
 pub mod holding;
 pub mod log;

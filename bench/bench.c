@@ -1,0 +1,179 @@
+/* Times the proved meter beside plain C, in one process: for each order and each piece of work the best and the median of the rounds, in
+ * microseconds, one line each: order, name, best, median. Each round runs every piece once, so that all see the same machine. */
+#include "meter.h"
+#include "plain.h"
+#include <math.h>
+#include <stdio.h>
+#include <stdlib.h>
+#include <string.h>
+#include <time.h>
+#ifdef WITH_FFTW
+#include <fftw3.h>
+#endif
+
+enum { ROUNDS = 41, SLOT_COUNT = 64, MOST_P = 65535 };
+
+static uint32_t order, taps;
+static size_t p;
+static uint8_t days[METER_DAYS];
+static uint16_t slots[METER_SLOTS];
+static int32_t *store, *y, *h, *mean, *predicted;
+static int64_t *sums, *r, *room, *other;
+static uint16_t *tags;
+static double *doubles, *paper_room, *paper_out;
+static volatile int64_t sink;
+
+static void must(int held, const char *what) {
+    if (!held) {
+        fprintf(stderr, "bench: %s\n", what);
+        exit(1);
+    }
+}
+
+#define RECORD order, taps, SLOT_COUNT, days, METER_DAYS, slots, METER_SLOTS, store, SLOT_COUNT *p, sums, p
+#define ROOM room, p + 1, tags, 2 * p
+
+static void recording(void) { must(meter_recording(order, taps, y, p, r, p, ROOM) == 0, "recording"); }
+static void predict(void) { must(meter_predict(order, taps, h, p, predicted, p) == 0, "predict"); }
+static void enter(void) {
+    uint32_t state;
+    size_t value;
+    must(meter_enter(RECORD, 64, y, p, &state, &value) == 0 && value == 63, "enter");
+}
+static void withdraw(void) { must(meter_withdraw(RECORD, 64) == 0, "withdraw"); }
+static void response(void) { must(meter_response(RECORD, r, p, mean, p, ROOM) == 0, "response"); }
+static void paper(void) { paper_recording(order, doubles, tags, tags + p, paper_room, paper_out); }
+static void plain(void) { plain_recording(order, taps, y, other, room, tags, tags + p); }
+static void ready(void) { plain_turn(order, y, other, room, tags, tags + p); }
+static void prediction(void) { plain_predict(order, taps, h, predicted, room, tags, tags + p); }
+static void pass(void) { sink += plain_pass(store, SLOT_COUNT * p); }
+
+#ifdef WITH_FFTW
+/* (c) the correlation by two transforms, the signal's own made before. */
+static fftw_plan forth, back;
+static double *wave;
+static fftw_complex *of_y, *of_x;
+static void fftw(void) {
+    for (size_t j = 0; j < p; j++)
+        wave[j] = y[j];
+    fftw_execute(forth);
+    for (size_t k = 0; k < p / 2 + 1; k++) {
+        double a = of_y[k][0], b = of_y[k][1], c = of_x[k][0], d = of_x[k][1];
+        of_y[k][0] = a * c + b * d;
+        of_y[k][1] = b * c - a * d;
+    }
+    fftw_execute(back);
+}
+static void plan_fftw(void) {
+    wave = fftw_malloc(p * sizeof *wave);
+    of_y = fftw_malloc((p / 2 + 1) * sizeof *of_y);
+    of_x = fftw_malloc((p / 2 + 1) * sizeof *of_x);
+    forth = fftw_plan_dft_r2c_1d((int)p, wave, of_y, FFTW_MEASURE);
+    back = fftw_plan_dft_c2r_1d((int)p, of_y, wave, FFTW_MEASURE);
+    uint8_t *bits = malloc(p);
+    must(meter_sequence(order, taps, bits, p) == 0, "sequence");
+    for (size_t j = 0; j < p; j++)
+        wave[j] = 1 - 2 * bits[j];
+    fftw_execute_dft_r2c(forth, wave, of_x);
+    free(bits);
+}
+#endif
+
+static struct {
+    const char *name;
+    void (*work)(void);
+    double times[ROUNDS];
+} pieces[] = {
+    {"recording", recording, {0}}, {"paper", paper, {0}}, {"plain", plain, {0}}, {"ready", ready, {0}},
+#ifdef WITH_FFTW
+    {"fftw", fftw, {0}},
+#endif
+    {"predict", predict, {0}}, {"plain_predict", prediction, {0}},
+    {"enter", enter, {0}}, {"pass", pass, {0}}, {"response", response, {0}}, {"withdraw", withdraw, {0}},
+};
+enum { PIECES = sizeof pieces / sizeof *pieces };
+
+static double now(void) {
+    struct timespec t;
+    clock_gettime(CLOCK_MONOTONIC, &t);
+    return (double)t.tv_sec * 1e6 + (double)t.tv_nsec / 1e3;
+}
+
+static int smaller(const void *a, const void *b) {
+    double x = *(const double *)a, z = *(const double *)b;
+    return (x > z) - (x < z);
+}
+
+static uint64_t seed = 1;
+static int32_t drawn(int32_t size) {
+    seed = seed * 6364136223846793005u + 1442695040888963407u;
+    return (int32_t)((seed >> 33) % (uint32_t)(2 * size + 1)) - size;
+}
+
+static void begin(uint32_t n) {
+    order = n;
+    p = ((size_t)1 << n) - 1;
+    must(meter_default_taps(order, &taps) == 0, "taps");
+    must(meter_start(RECORD) == 0, "start");
+    for (uint32_t day = 1; day < SLOT_COUNT; day++) {
+        uint32_t state;
+        size_t value;
+        for (size_t j = 0; j < p; j++)
+            y[j] = drawn(8388606);
+        must(meter_enter(RECORD, day, y, p, &state, &value) == 0 && state == METER_STANDING, "a day");
+    }
+    for (size_t j = 0; j < p; j++) {
+        doubles[j] = y[j];
+        h[j] = j < 64 ? drawn(100000) : 0;
+    }
+    /* What is compared answers the same. */
+    recording();
+    plain();
+    must(memcmp(r, other, p * sizeof *r) == 0, "plain C differs");
+    predict();
+    memcpy(mean, predicted, p * sizeof *mean);
+    prediction();
+    must(memcmp(mean, predicted, p * sizeof *mean) == 0, "plain C's prediction differs");
+    plain_tags(order, taps, tags, tags + p);
+    paper();
+    for (size_t k = 0; k < p; k++)
+        must(fabs(paper_out[k] - (double)r[k] / (double)(p + 1)) < 1e-3, "the paper's route differs");
+#ifdef WITH_FFTW
+    plan_fftw();
+#endif
+}
+
+int main(void) {
+    static const uint32_t orders[3] = {9, 12, 16};
+    store = malloc(SLOT_COUNT * MOST_P * sizeof *store);
+    y = malloc(MOST_P * sizeof *y);
+    h = malloc(MOST_P * sizeof *h);
+    mean = malloc(MOST_P * sizeof *mean);
+    predicted = malloc(MOST_P * sizeof *predicted);
+    sums = malloc(MOST_P * sizeof *sums);
+    r = malloc(MOST_P * sizeof *r);
+    other = malloc(MOST_P * sizeof *other);
+    room = malloc((MOST_P + 1) * sizeof *room);
+    tags = malloc(2 * MOST_P * sizeof *tags);
+    doubles = malloc(MOST_P * sizeof *doubles);
+    paper_room = malloc((MOST_P + 1) * sizeof *paper_room);
+    paper_out = malloc(MOST_P * sizeof *paper_out);
+    for (int n = 0; n < 3; n++) {
+        begin(orders[n]);
+        for (int round = -2; round < ROUNDS; round++)
+            for (int i = 0; i < PIECES; i++) {
+                if (pieces[i].work == paper || pieces[i].work == ready)
+                    plain_tags(order, taps, tags, tags + p);
+                double from = now();
+                pieces[i].work();
+                double to = now();
+                if (round >= 0)
+                    pieces[i].times[round] = to - from;
+            }
+        for (int i = 0; i < PIECES; i++) {
+            qsort(pieces[i].times, ROUNDS, sizeof(double), smaller);
+            printf("%u %s %.2f %.2f\n", order, pieces[i].name, pieces[i].times[0], pieces[i].times[ROUNDS / 2]);
+        }
+    }
+    return 0;
+}

@@ -1,0 +1,87 @@
+-- `meter::campaigns::meter_start` meets its contract. Assumes nothing.
+use mathlib.Core.Path.{_≡_, sym, ap, _∙_}
+use mathlib.Core.Bool.{true, false}
+use mathlib.Core.List.{List}
+use Prim.Native.Nat.{ℕ}
+use borrow.Author.Needs.{needs}
+use lib.IntN.{ℤ}
+use Rattle.sums.specs.Lists.{put}
+use Rattle.records.specs.declared.Campaign.{Campaign}
+use Rattle.campaign.specs.declared.Started.{Started}
+use Rattle.campaign.specs.Calls.{startOutcome}
+use Rattle.meter.specs.Doors.{tablesShort, recordOf, startedOut, startDoor}
+use Rattle.meter.proofs.Opening.{shut, through, long}
+use Rattle.meter.proofs.campaigns.meter_start.Statement.{statement}
+use Rattle.meter.proofs.campaigns.meter_start.Tie as tie
+
+module _ (N taps C : ℕ) (days slots : List ℕ) (store sums : List ℤ) where
+  refused : tablesShort days slots ≡ true → (15, days, slots, store, sums) ≡ startDoor N taps C days slots store sums
+  unfolding startDoor
+  refused h = shut days slots _ _ h
+
+  opened : tablesShort days slots ≡ false → {c : Campaign} {e : Started} {s u : List ℤ} {days′ slots′ : List ℕ}
+      → c ≡ recordOf N taps C days slots → (e, s, u) ≡ startOutcome c N taps C store sums
+      → (days′ ≡ put (e .campaign .days) days) × (slots′ ≡ put (e .campaign .table) slots)
+      → (e .answer, days′, slots′, s, u) ≡ startDoor N taps C days slots store sums
+  unfolding startDoor
+  opened h {e = e} {s = s} {u = u} k o (f, g) =
+      through days slots _ (startedOut days slots) {o = (e, s, u)} h (rw (f, g)) (o ∙ ap (λ c. startOutcome c N taps C store sums) k)
+
+tables-short-requires : tie.Need-tables-short-requires
+tables-short-requires c κs = search needs
+
+returns : tie.Need-returns
+returns c =
+    let a = c .before .before .before .before .args in
+    refused (a .order) (a .taps) (a .count) (a .days .now) (a .slots .now) (a .store .now) (a .sums .now)
+    (sym (c .before .tables-short .ensures) ∙ c .if1 .taken)
+
+-- past the check
+wide : (c : tie.Else1) → tablesShort (c .before .before .before .before .args .days .now) (c .before .before .before .before .args .slots .now) ≡ false
+wide c = sym (c .before .tables-short .ensures) ∙ c .if1 .left
+
+read-record-requires : tie.Need-read-record-requires
+read-record-requires c κs = long (c .before .before .before .before .before .before .args .days .now) (c .before .before .before .before .before .before .args .slots .now) (wide (c .before .before))
+
+start-requires : tie.Need-start-requires
+start-requires c κs = search needs
+
+write-record-requires : tie.Need-write-record-requires
+write-record-requires c κs = long (c .before .before .before .before .before .before .before .before .before .before .before .before .before .before .before .args .days .now) (c .before .before .before .before .before .before .before .before .before .before .before .before .before .before .before .args .slots .now) (wide (c .before .before .before .before .before .before .before .before .before .before .before))
+
+same-length : tie.Need-same-length
+same-length c = search needs
+
+same-length-2 : tie.Need-same-length-2
+same-length-2 c = search needs
+
+same-length-3 : tie.Need-same-length-3
+same-length-3 c = search needs
+
+same-length-4 : tie.Need-same-length-4
+same-length-4 c = search needs
+
+returns-2 : tie.Need-returns-2
+returns-2 c =
+    let w = c .before .before .before .before in
+    let e = w .before .before .before .before .before .before in
+    let k = e .before .before .before in
+    let i = k .before .before .before in
+    let a = i .before .before .before .before .args in
+    opened (a .order) (a .taps) (a .count) (a .days .now) (a .slots .now) (a .store .now) (a .sums .now)
+    (wide i) (k .read-record .ensures) (e .start .ensures) (w .write-record .ensures)
+
+pub meter-start-spec : {M : Type 1} → statement M
+meter-start-spec =
+    tie.close
+    (tie.spec
+    tables-short-requires
+    returns
+    read-record-requires
+    start-requires
+    write-record-requires
+    same-length
+    same-length-2
+    same-length-3
+    same-length-4
+    returns-2)

@@ -1,0 +1,13 @@
+-- `meter::tables::tables_short` meets its contract. Assumes nothing.
+use borrow.Author.Tests.{lt-ltb, le-ltb}
+use Rattle.meter.proofs.tables.tables_short.Statement.{statement}
+use Rattle.meter.proofs.tables.tables_short.Tie as tie
+
+returns : tie.Need-returns
+returns c = simp (lt-ltb _ _ (c .if1 .taken))
+
+returns-2 : tie.Need-returns-2
+returns-2 c = simp (le-ltb _ _ (c .if1 .left))
+
+pub tables-short-spec : {M : Type 1} → statement M
+tables-short-spec = tie.close (tie.spec returns returns-2)

@@ -1,0 +1,131 @@
+-- The doors of the campaign's calls: the record crosses as its order, taps and slot count and two lent tables, `days` of 366 and `slots` of 64,
+-- and each door is the call's own outcome function between them. A shorter table is refused with 15, before the call's checks, and nothing is
+-- touched; a longer one keeps its tail. Assumes nothing.
+use mathlib.Core.List.{List, [], _∷_}
+use mathlib.Core.Bool.{Bool, _||_}
+use Prim.Native.Nat.{ℕ}
+use lib.Dec.{ltb}
+use lib.IntN.{ℤ}
+use lib.ListN.{length, take}
+use Rattle.sums.specs.Lists.{put}
+use Rattle.sums.specs.Refusals.{outcome}
+use Rattle.records.specs.Record.{standing, overloaded, dead}
+use Rattle.records.specs.declared.Campaign.{Campaign}
+use Rattle.campaign.specs.declared.Verdict.{Verdict}
+use Rattle.campaign.specs.declared.Verdict.the-variants as verdict
+use Rattle.campaign.specs.declared.Started.{Started}
+use Rattle.campaign.specs.declared.Entered.{Entered}
+use Rattle.campaign.specs.declared.Withdrawn.{Withdrawn}
+use Rattle.campaign.specs.declared.Tally.{Tally}
+use Rattle.campaign.specs.declared.Counts.{Counts}
+use Rattle.campaign.specs.declared.Counts.the-variants as counts
+use Rattle.campaign.specs.declared.Levels.{Levels}
+use Rattle.campaign.specs.declared.Summary.{Summary}
+use Rattle.campaign.specs.declared.Summary.the-variants as summary
+use Rattle.campaign.specs.Calls.{startOutcome, enterOutcome, withdrawOutcome, countsOutcome, responseOutcome, summaryOutcome, verdictNumber, countsNumber, summaryNumber}
+
+-- ---- the record
+
+-- 15: a table is short of 366 days or 64 slots
+abbrev pub tablesShort : List ℕ → List ℕ → Bool
+tablesShort days slots = ltb (length days) 366 || ltb (length slots) 64
+
+-- the record that the caller lends
+abbrev pub recordOf : ℕ → ℕ → ℕ → List ℕ → List ℕ → Campaign
+recordOf N taps C days slots = record { order = N; taps = taps; slots = C; days = take 366 days; table = take 64 slots }
+
+-- a door behind that check
+abbrev pub behind : {A : Type 0} → List ℕ → List ℕ → (ℕ → A) → A → A
+behind days slots refused opened = outcome ((15, tablesShort days slots) ∷ []) refused opened
+
+-- ---- start: the answer, the tables, the store and the sums
+
+abbrev pub startedOut : List ℕ → List ℕ → Started × List ℤ × List ℤ → ℕ × List ℕ × List ℕ × List ℤ × List ℤ
+startedOut days slots (s, store, sums) = (s .answer, put (s .campaign .days) days, put (s .campaign .table) slots, store, sums)
+
+unfoldable pub startDoor : ℕ → ℕ → ℕ → List ℕ → List ℕ → List ℤ → List ℤ → ℕ × List ℕ × List ℕ × List ℤ × List ℤ
+startDoor N taps C days slots store sums =
+    behind days slots (λ n. (n, days, slots, store, sums))
+    (startedOut days slots (startOutcome (recordOf N taps C days slots) N taps C store sums))
+
+-- ---- enter: and the verdict
+
+-- the state that a verdict gives its day; a refusal gives none
+abbrev pub verdictState : Verdict → ℕ → ℕ
+verdictState (verdict.Kept s) was = standing
+verdictState (verdict.Overloaded p) was = overloaded
+verdictState verdict.Dead was = dead
+verdictState (verdict.Refused n) was = was
+
+-- its value: the slot, the first place at a rail, 0 for a dead day
+abbrev pub verdictValue : Verdict → ℕ → ℕ
+verdictValue (verdict.Kept s) was = s
+verdictValue (verdict.Overloaded p) was = p
+verdictValue verdict.Dead was = 0
+verdictValue (verdict.Refused n) was = was
+
+abbrev pub enteredOut : List ℕ → List ℕ → ℕ → ℕ → Entered × List ℤ × List ℤ → ℕ × List ℕ × List ℕ × List ℤ × List ℤ × ℕ × ℕ
+enteredOut days slots state value (e, store, sums) = (
+  verdictNumber (e .entry .verdict),
+  put (e .campaign .days) days,
+  put (e .campaign .table) slots,
+  store,
+  sums,
+  verdictState (e .entry .verdict) state,
+  verdictValue (e .entry .verdict) value,
+)
+
+unfoldable pub enterDoor : ℕ → ℕ → ℕ → List ℕ → List ℕ → List ℤ → List ℤ → ℕ → List ℤ → ℕ → ℕ → ℕ × List ℕ × List ℕ × List ℤ × List ℤ × ℕ × ℕ
+enterDoor N taps C days slots store sums d y state value =
+    behind days slots (λ n. (n, days, slots, store, sums, state, value))
+    (enteredOut days slots state value (enterOutcome (recordOf N taps C days slots) store sums d y))
+
+-- ---- withdraw
+
+abbrev pub withdrawnOut : List ℕ → List ℕ → Withdrawn × List ℤ × List ℤ → ℕ × List ℕ × List ℕ × List ℤ × List ℤ
+withdrawnOut days slots (w, store, sums) = (w .answer, put (w .campaign .days) days, put (w .campaign .table) slots, store, sums)
+
+unfoldable pub withdrawDoor : ℕ → ℕ → ℕ → List ℕ → List ℕ → List ℤ → List ℤ → ℕ → ℕ × List ℕ × List ℕ × List ℤ × List ℤ
+withdrawDoor N taps C days slots store sums d =
+    behind days slots (λ n. (n, days, slots, store, sums))
+    (withdrawnOut days slots (withdrawOutcome (recordOf N taps C days slots) store sums d))
+
+-- ---- counts: the answer and the days in each state
+
+abbrev pub tallyOut : Counts → Tally → Tally
+tallyOut (counts.Counted t) was = t
+tallyOut (counts.Refused n) was = was
+
+abbrev pub countedOut : Tally → Counts → ℕ × Tally
+countedOut was c = (countsNumber c, tallyOut c was)
+
+unfoldable pub countsDoor : ℕ → ℕ → ℕ → List ℕ → List ℕ → List ℤ → List ℤ → Tally → ℕ × Tally
+countsDoor N taps C days slots store sums was =
+    behind days slots (λ n. (n, was)) (countedOut was (countsOutcome (recordOf N taps C days slots) store sums))
+
+-- ---- response: the answer, r, the mean, the wide room and the tags
+
+unfoldable pub responseDoor : ℕ → ℕ → ℕ → List ℕ → List ℕ → List ℤ → List ℤ → List ℤ → List ℤ → List ℤ → List ℕ → ℕ × List ℤ × List ℤ × List ℤ × List ℕ
+responseDoor N taps C days slots store sums r mean room tags =
+    behind days slots (λ n. (n, r, mean, room, tags))
+    (responseOutcome (recordOf N taps C days slots) store sums r mean room tags)
+
+-- ---- summary: the answer, the wide room and the tags, whether some day stands, and the levels, which are written where one does
+
+abbrev pub standsOut : Summary → ℕ → ℕ
+standsOut summary.Nothing was = 0
+standsOut (summary.Measured l) was = 1
+standsOut (summary.Refused n) was = was
+
+abbrev pub levelsOut : Summary → Levels → Levels
+levelsOut summary.Nothing was = was
+levelsOut (summary.Measured l) was = l
+levelsOut (summary.Refused n) was = was
+
+abbrev pub summedOut : ℕ → Levels → Summary × List ℤ × List ℕ → ℕ × List ℤ × List ℕ × ℕ × Levels
+summedOut stood was (s, room, tags) = (summaryNumber s, room, tags, standsOut s stood, levelsOut s was)
+
+unfoldable pub summaryDoor : ℕ → ℕ → ℕ → List ℕ → List ℕ → List ℤ → List ℤ → List ℤ → List ℕ → ℕ → Levels → ℕ × List ℤ × List ℕ × ℕ × Levels
+summaryDoor N taps C days slots store sums room tags stood was =
+    behind days slots (λ n. (n, room, tags, stood, was))
+    (summedOut stood was (summaryOutcome (recordOf N taps C days slots) store sums room tags))

@@ -1,0 +1,56 @@
+-- The doors of the register: a player crosses as its four numbers, and an answer's case as its number beside what is lent for its value, which
+-- a refusal leaves as it was. Assumes nothing.
+use mathlib.Core.List.{List}
+use Prim.Native.Nat.{ℕ}
+use lib.IntN.{ℤ}
+use Rattle.register.specs.declared.Player.{Player}
+use Rattle.register.specs.declared.DefaultTaps.{DefaultTaps}
+use Rattle.register.specs.declared.DefaultTaps.the-variants as default
+use Rattle.register.specs.declared.NewPlayer.{NewPlayer}
+use Rattle.register.specs.declared.NewPlayer.the-variants as new
+use Rattle.register.specs.declared.Tick.{Tick}
+use Rattle.register.specs.declared.Tick.the-variants as tick
+use Rattle.register.specs.declared.Stepped.{Stepped}
+use Rattle.register.specs.declared.Played.{Played}
+use Rattle.register.specs.Calls.{defaultOutcome, newOutcome, stepOutcome, playOutcome, tickNumber}
+
+abbrev pub playerOf : ℕ → ℕ → ℕ → ℕ → Player
+playerOf N taps window count = record { order = N; taps = taps; window = window; count = count }
+
+-- ---- default taps: the answer and the taps
+
+abbrev pub defaultOut : ℕ → DefaultTaps → ℕ × ℕ
+defaultOut was (default.Taps taps) = (0, taps)
+defaultOut was (default.Refused n) = (n, was)
+
+abbrev pub defaultDoor : ℕ → ℕ → ℕ × ℕ
+defaultDoor N was = defaultOut was (defaultOutcome N)
+
+-- ---- new player: the answer and the player
+
+abbrev pub newOut : Player → NewPlayer → ℕ × Player
+newOut was (new.Ready p) = (0, p)
+newOut was (new.Refused n) = (n, was)
+
+abbrev pub newDoor : ℕ → ℕ → Player → ℕ × Player
+newDoor N taps was = newOut was (newOutcome N taps)
+
+-- ---- player step: the answer, the player and the sign
+
+abbrev pub signOut : ℤ → Tick → ℤ
+signOut was (tick.Sign x) = x
+signOut was (tick.Refused n) = was
+
+abbrev pub steppedOut : ℤ → Stepped → ℕ × Player × ℤ
+steppedOut was s = (tickNumber (s .tick), s .player, signOut was (s .tick))
+
+abbrev pub stepDoor : Player → ℤ → ℕ × Player × ℤ
+stepDoor p was = steppedOut was (stepOutcome p)
+
+-- ---- a block of signs: the answer, the player and the signs
+
+abbrev pub playedOut : Played × List ℤ → ℕ × Player × List ℤ
+playedOut (p, signs) = (p .answer, p .player, signs)
+
+abbrev pub playDoor : Player → List ℤ → ℕ × Player × List ℤ
+playDoor p signs = playedOut (playOutcome p signs)

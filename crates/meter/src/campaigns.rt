@@ -1,0 +1,173 @@
+// The doors of a campaign's calls: the record crosses as three numbers and two lent tables.
+use crate::tables::read_record;
+use crate::tables::tables_short;
+use crate::tables::write_record;
+use crate::verdicts::write_counts;
+use crate::verdicts::write_summary;
+use crate::verdicts::write_verdict;
+use campaign::answering::response;
+use campaign::counting::counts;
+use campaign::entering::enter;
+use campaign::starting::start;
+use campaign::summing::summary;
+use campaign::withdrawing::withdraw;
+ghost use mathlib.Core.Path.{_≡_};
+ghost use Rattle.meter.specs.Doors.{startDoor, enterDoor, withdrawDoor, countsDoor, responseDoor, summaryDoor};
+
+#[no_mangle]
+pub extern "C" fn meter_start(
+    order: u32,
+    taps: u32,
+    count: u32,
+    days: &mut [u8],
+    slots: &mut [u16],
+    store: &mut [i32],
+    sums: &mut [i64],
+) -> u32
+    ensures { λ r. ⌜ (r, now (days .exit), now (slots .exit), now (store .exit), now (sums .exit))
+        ≡ startDoor order taps count (now (days .entry)) (now (slots .entry)) (now (store .entry)) (now (sums .entry)) ⌝ }
+{
+    if tables_short(days.len(), slots.len()) {
+        return 15;
+    }
+    let c = read_record(order, taps, count, days, slots);
+    let started = start(c, order, taps, count, store, sums);
+    let made = started.campaign;
+    write_record(made, days, slots);
+    started.answer
+}
+
+#[no_mangle]
+pub extern "C" fn meter_enter(
+    order: u32,
+    taps: u32,
+    count: u32,
+    days: &mut [u8],
+    slots: &mut [u16],
+    store: &mut [i32],
+    sums: &mut [i64],
+    day: u32,
+    y: &[i32],
+    state: &mut u32,
+    value: &mut usize,
+) -> u32
+    ensures { λ r. ⌜ (r, now (days .exit), now (slots .exit), now (store .exit), now (sums .exit), now (state .exit), now (value .exit))
+        ≡ enterDoor order taps count (now (days .entry)) (now (slots .entry)) (now (store .entry)) (now (sums .entry)) day (now (y .entry))
+        (now (state .entry)) (now (value .entry)) ⌝ }
+{
+    if tables_short(days.len(), slots.len()) {
+        return 15;
+    }
+    let c = read_record(order, taps, count, days, slots);
+    let entered = enter(c, store, sums, day, y);
+    let made = entered.campaign;
+    write_record(made, days, slots);
+    let entry = entered.entry;
+    let verdict = entry.verdict;
+    write_verdict(verdict, state, value)
+}
+
+#[no_mangle]
+pub extern "C" fn meter_withdraw(
+    order: u32,
+    taps: u32,
+    count: u32,
+    days: &mut [u8],
+    slots: &mut [u16],
+    store: &mut [i32],
+    sums: &mut [i64],
+    day: u32,
+) -> u32
+    ensures { λ r. ⌜ (r, now (days .exit), now (slots .exit), now (store .exit), now (sums .exit))
+        ≡ withdrawDoor order taps count (now (days .entry)) (now (slots .entry)) (now (store .entry)) (now (sums .entry)) day ⌝ }
+{
+    if tables_short(days.len(), slots.len()) {
+        return 15;
+    }
+    let c = read_record(order, taps, count, days, slots);
+    let withdrawn = withdraw(c, store, sums, day);
+    let made = withdrawn.campaign;
+    write_record(made, days, slots);
+    withdrawn.answer
+}
+
+#[no_mangle]
+pub extern "C" fn meter_response(
+    order: u32,
+    taps: u32,
+    count: u32,
+    days: &[u8],
+    slots: &[u16],
+    store: &[i32],
+    sums: &[i64],
+    r: &mut [i64],
+    mean: &mut [i32],
+    room: &mut [i64],
+    tags: &mut [u16],
+) -> u32
+    ensures { λ x. ⌜ (x, now (r .exit), now (mean .exit), now (room .exit), now (tags .exit))
+        ≡ responseDoor order taps count (now (days .entry)) (now (slots .entry)) (now (store .entry)) (now (sums .entry))
+        (now (r .entry)) (now (mean .entry)) (now (room .entry)) (now (tags .entry)) ⌝ }
+{
+    if tables_short(days.len(), slots.len()) {
+        return 15;
+    }
+    let c = read_record(order, taps, count, days, slots);
+    response(c, store, sums, r, mean, room, tags)
+}
+
+#[no_mangle]
+pub extern "C" fn meter_counts(
+    order: u32,
+    taps: u32,
+    count: u32,
+    days: &[u8],
+    slots: &[u16],
+    store: &[i32],
+    sums: &[i64],
+    unseen: &mut u32,
+    standing: &mut u32,
+    overloaded: &mut u32,
+    dead: &mut u32,
+    withdrawn: &mut u32,
+) -> u32
+    ensures { λ r. ⌜ (r, record { unseen = now (unseen .exit); standing = now (standing .exit); overloaded = now (overloaded .exit); dead = now (dead .exit); withdrawn = now (withdrawn .exit) })
+        ≡ countsDoor order taps count (now (days .entry)) (now (slots .entry)) (now (store .entry)) (now (sums .entry))
+        (record { unseen = now (unseen .entry); standing = now (standing .entry); overloaded = now (overloaded .entry); dead = now (dead .entry); withdrawn = now (withdrawn .entry) }) ⌝ }
+{
+    if tables_short(days.len(), slots.len()) {
+        return 15;
+    }
+    let c = read_record(order, taps, count, days, slots);
+    let counted = counts(c, store, sums);
+    write_counts(counted, unseen, standing, overloaded, dead, withdrawn)
+}
+
+#[no_mangle]
+pub extern "C" fn meter_summary(
+    order: u32,
+    taps: u32,
+    count: u32,
+    days: &[u8],
+    slots: &[u16],
+    store: &[i32],
+    sums: &[i64],
+    room: &mut [i64],
+    tags: &mut [u16],
+    stands: &mut u32,
+    highest: &mut f64,
+    lowest: &mut f64,
+    peak: &mut f64,
+) -> u32
+    ensures { λ x. ⌜ (x, now (room .exit), now (tags .exit), now (stands .exit), record { highest = now (highest .exit); lowest = now (lowest .exit); peak = now (peak .exit) })
+        ≡ summaryDoor order taps count (now (days .entry)) (now (slots .entry)) (now (store .entry)) (now (sums .entry))
+        (now (room .entry)) (now (tags .entry)) (now (stands .entry))
+        (record { highest = now (highest .entry); lowest = now (lowest .entry); peak = now (peak .entry) }) ⌝ }
+{
+    if tables_short(days.len(), slots.len()) {
+        return 15;
+    }
+    let c = read_record(order, taps, count, days, slots);
+    let found = summary(c, store, sums, room, tags);
+    write_summary(found, stands, highest, lowest, peak)
+}

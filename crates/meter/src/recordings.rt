@@ -1,0 +1,25 @@
+// The doors of one recording and of a prediction.
+ghost use mathlib.Core.Path.{_≡_};
+ghost use Rattle.response.specs.Calls.{recordingOutcome, predictionOutcome};
+
+#[no_mangle]
+pub extern "C" fn meter_recording(
+    order: u32,
+    taps: u32,
+    y: &[i32],
+    out: &mut [i64],
+    room: &mut [i64],
+    tags: &mut [u16],
+) -> u32
+    ensures { λ r. ⌜ (r, now (out .exit), now (room .exit), now (tags .exit))
+        ≡ recordingOutcome order taps (now (y .entry)) (now (out .entry)) (now (room .entry)) (now (tags .entry)) ⌝ }
+{
+    response::one_recording(order, taps, y, out, room, tags)
+}
+
+#[no_mangle]
+pub extern "C" fn meter_predict(order: u32, taps: u32, h: &[i32], out: &mut [i32]) -> u32
+    ensures { λ r. ⌜ (r, now (out .exit)) ≡ predictionOutcome order taps (now (h .entry)) (now (out .entry)) ⌝ }
+{
+    response::predict(order, taps, h, out)
+}

@@ -1,0 +1,67 @@
+// The record's two tables, read from lent memory and written back to it.
+use records::Campaign;
+ghost use mathlib.Core.Path.{_≡_};
+ghost use mathlib.Core.Bool.{_||_};
+ghost use Prim.Native.Nat.{_≤_};
+ghost use lib.Dec.{ltb};
+ghost use lib.ListN.{length};
+ghost use Rattle.sums.specs.Lists.{put};
+ghost use Rattle.meter.specs.Doors.{recordOf};
+
+// Whether a table is short of 366 days or 64 slots.
+pub fn tables_short(days: usize, slots: usize) -> bool
+    ensures { λ r. ⌜ r ≡ ltb days 366 || ltb slots 64 ⌝ }
+{
+    days < 366 || slots < 64
+}
+
+fn copy_days(from: &[u8], to: &mut [u8])
+    requires { ⌜ length (now from) ≤ length (now to) ⌝ }
+    ensures { λ _. ⌜ now (to .exit) ≡ put (now (from .entry)) (now (to .entry)) ⌝ }
+{
+    let mut i = 0;
+    while i < from.len() {
+        to[i] = from[i];
+        i += 1;
+    }
+}
+
+fn copy_slots(from: &[u16], to: &mut [u16])
+    requires { ⌜ length (now from) ≤ length (now to) ⌝ }
+    ensures { λ _. ⌜ now (to .exit) ≡ put (now (from .entry)) (now (to .entry)) ⌝ }
+{
+    let mut s = 0;
+    while s < from.len() {
+        to[s] = from[s];
+        s += 1;
+    }
+}
+
+// The record of three numbers and two tables.
+pub fn read_record(order: u32, taps: u32, count: u32, days: &[u8], slots: &[u16]) -> Campaign
+    requires { ⌜ (366 ≤ length (now days)) × (64 ≤ length (now slots)) ⌝ }
+    ensures { λ r. ⌜ r ≡ recordOf order taps count (now (days .entry)) (now (slots .entry)) ⌝ }
+{
+    let mut own_days = [0u8; 366];
+    let mut own_slots = [0u16; 64];
+    copy_days(&days[..366], &mut own_days);
+    copy_slots(&slots[..64], &mut own_slots);
+    Campaign {
+        order,
+        taps,
+        slots: count,
+        days: own_days,
+        table: own_slots,
+    }
+}
+
+// The record's tables in the place of the lent ones.
+pub fn write_record(c: Campaign, days: &mut [u8], slots: &mut [u16])
+    requires { ⌜ (366 ≤ length (now days)) × (64 ≤ length (now slots)) ⌝ }
+    ensures { λ _. ⌜ (now (days .exit) ≡ put (c .days) (now (days .entry))) × (now (slots .exit) ≡ put (c .table) (now (slots .entry))) ⌝ }
+{
+    let own_days = c.days;
+    let own_slots = c.table;
+    copy_days(&own_days, days);
+    copy_slots(&own_slots, slots);
+}

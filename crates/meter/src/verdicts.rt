@@ -1,0 +1,88 @@
+// The cases of a campaign's answers as numbers.
+use campaign::Counts;
+use campaign::Summary;
+use campaign::Verdict;
+ghost use mathlib.Core.Path.{_≡_};
+ghost use Rattle.campaign.specs.Calls.{verdictNumber, countsNumber, summaryNumber};
+ghost use Rattle.meter.specs.Doors.{verdictState, verdictValue, tallyOut, standsOut, levelsOut};
+
+// The answer; the state that the verdict gives the day, and the verdict's value, where it is lent.
+pub fn write_verdict(verdict: Verdict, state: &mut u32, value: &mut usize) -> u32
+    ensures { λ r. ⌜ (r ≡ verdictNumber verdict)
+        × (now (state .exit) ≡ verdictState verdict (now (state .entry)))
+        × (now (value .exit) ≡ verdictValue verdict (now (value .entry))) ⌝ }
+{
+    match verdict {
+        Verdict::Kept(s) => {
+            *state = 1;
+            *value = s;
+            0
+        }
+        Verdict::Overloaded(p) => {
+            *state = 2;
+            *value = p;
+            0
+        }
+        Verdict::Dead => {
+            *state = 3;
+            *value = 0;
+            0
+        }
+        Verdict::Refused(n) => n,
+    }
+}
+
+// The answer; the days in each state where they are lent.
+pub fn write_counts(
+    counts: Counts,
+    unseen: &mut u32,
+    standing: &mut u32,
+    overloaded: &mut u32,
+    dead: &mut u32,
+    withdrawn: &mut u32,
+) -> u32
+    ensures { λ r. ⌜ (r ≡ countsNumber counts)
+        × (record { unseen = now (unseen .exit); standing = now (standing .exit); overloaded = now (overloaded .exit); dead = now (dead .exit); withdrawn = now (withdrawn .exit) }
+        ≡ tallyOut counts (record { unseen = now (unseen .entry); standing = now (standing .entry); overloaded = now (overloaded .entry); dead = now (dead .entry); withdrawn = now (withdrawn .entry) })) ⌝ }
+{
+    match counts {
+        Counts::Counted(t) => {
+            *unseen = t.unseen;
+            *standing = t.standing;
+            *overloaded = t.overloaded;
+            *dead = t.dead;
+            *withdrawn = t.withdrawn;
+            0
+        }
+        Counts::Refused(n) => n,
+    }
+}
+
+// The answer; whether some day stands, and the levels, where they are lent.
+pub fn write_summary(
+    summary: Summary,
+    stands: &mut u32,
+    highest: &mut f64,
+    lowest: &mut f64,
+    peak: &mut f64,
+) -> u32
+    ensures { λ r. ⌜ (r ≡ summaryNumber summary)
+        × (now (stands .exit) ≡ standsOut summary (now (stands .entry)))
+        × (record { highest = now (highest .exit); lowest = now (lowest .exit); peak = now (peak .exit) }
+        ≡ levelsOut summary (record { highest = now (highest .entry); lowest = now (lowest .entry); peak = now (peak .entry) })) ⌝ }
+{
+    match summary {
+        Summary::Nothing => {
+            *stands = 0;
+            0
+        }
+        Summary::Measured(l) => {
+            *stands = 1;
+            *highest = l.highest;
+            *lowest = l.lowest;
+            *peak = l.peak;
+            0
+        }
+        Summary::Refused(n) => n,
+    }
+}

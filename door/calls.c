@@ -1,0 +1,110 @@
+/* Calls every function of meter.h on document 01's numbers. Prints nothing but what is wrong, and a last line. */
+#include "meter.h"
+#include <stdio.h>
+#include <string.h>
+
+static int wrong;
+static int made;
+
+static void expect(int held, const char *what) {
+    made++;
+    if (!held) {
+        wrong++;
+        printf("wrong: %s\n", what);
+    }
+}
+#define EXPECT(fact) expect((fact), #fact)
+
+enum { ORDER = 3, TAPS = 3, P = 7, SLOT_COUNT = 2 };
+
+static uint8_t days[METER_DAYS + 1];
+static uint16_t slots[METER_SLOTS + 1];
+static int32_t store[SLOT_COUNT * P + 1];
+static int64_t sums[P + 1];
+static int64_t r[P + 1];
+static int32_t mean[P + 1];
+static int64_t room[P + 2];
+static uint16_t tags[2 * P + 1];
+
+#define RECORD ORDER, TAPS, SLOT_COUNT, days, METER_DAYS + 1, slots, METER_SLOTS + 1, store, SLOT_COUNT * P + 1, sums, P + 1
+#define ROOM room, P + 2, tags, 2 * P + 1
+
+static void registers(void) {
+    uint32_t taps = 7, o = 0, t = 0, window = 9, count = 9;
+    int32_t sign = 0;
+    uint8_t bits[P + 1] = {9, 9, 9, 9, 9, 9, 9, 9};
+    int8_t signs[4];
+    EXPECT(meter_taps(2, 3) == 0 && meter_taps(2, 1) == 4 && meter_taps(2, 2) == 3 && meter_taps(2, 4) == 2);
+    EXPECT(meter_taps(4, 15) == 4 && meter_taps(4, 5) == 4 && meter_taps(1, 3) == 1 && meter_taps(17, 3) == 1);
+    EXPECT(meter_default_taps(17, &taps) == 1 && taps == 7);
+    EXPECT(meter_default_taps(16, &taps) == 0 && taps == 45);
+    EXPECT(meter_sequence(3, 3, bits, 6) == 6 && bits[0] == 9);
+    EXPECT(meter_sequence(3, 3, bits, 8) == 0 && memcmp(bits, (uint8_t[]){1, 1, 1, 0, 0, 1, 0, 9}, 8) == 0);
+    EXPECT(meter_player_new(3, 4, &o, &t, &window, &count) == 3 && window == 9);
+    EXPECT(meter_player_new(3, 3, &o, &t, &window, &count) == 0 && o == 3 && t == 3 && window == 7 && count == 0);
+    count = 4294967295u;
+    EXPECT(meter_player_step(&o, &t, &window, &count, &sign) == 0 && sign == -1 && window == 3 && count == 0);
+    EXPECT(meter_player_play(&o, &t, &window, &count, signs, 4) == 0 && count == 4);
+    EXPECT(signs[0] == -1 && signs[1] == -1 && signs[2] == 1 && signs[3] == 1);
+    window = 8;
+    EXPECT(meter_player_step(&o, &t, &window, &count, &sign) == 16 && sign == -1 && window == 8 && count == 4);
+    EXPECT(meter_player_play(&o, &t, &window, &count, signs, 4) == 16 && count == 4);
+}
+
+static void recordings(void) {
+    int32_t h[P] = {2, 0, -1, 0, 0, 0, 0}, y[P + 1] = {0};
+    y[P] = 9;
+    r[P] = 9;
+    room[P + 1] = 9;
+    tags[2 * P] = 9;
+    EXPECT(meter_predict(ORDER, TAPS, h, 6, y, P + 1) == 5);
+    EXPECT(meter_predict(ORDER, TAPS, h, P, y, P + 1) == 0);
+    EXPECT(memcmp(y, (int32_t[]){-1, -3, -1, 3, 3, -3, 1, 9}, sizeof y) == 0);
+    EXPECT(meter_recording(ORDER, TAPS, y, P, r, P + 1, room, P, tags, 2 * P) == 6);
+    EXPECT(meter_recording(ORDER, TAPS, y, P, r, P + 1, ROOM) == 0);
+    EXPECT(memcmp(r, (int64_t[]){16, 0, -8, 0, 0, 0, 0, 9}, sizeof r) == 0);
+    EXPECT(room[0] == 0 && room[P] == 0 && room[P + 1] == 9 && tags[0] == 0 && tags[2 * P] == 9);
+}
+
+static void campaigns(void) {
+    const int32_t y[P] = {-1, -3, -1, 3, 3, -3, 1}, still[P] = {5, 5, 5, 5, 5, 5, 5}, loud[P] = {0, 0, 8388607, 0, 0, 0, -8388608};
+    uint32_t state = 9, unseen = 9, standing = 9, overloaded = 9, dead = 9, withdrawn = 9, stands = 9;
+    size_t value = 9;
+    double highest = 9, lowest = 9, peak = 9;
+    days[METER_DAYS] = 9;
+    slots[METER_SLOTS] = 9;
+    store[0] = 9;
+    EXPECT(meter_start(ORDER, TAPS, SLOT_COUNT, days, METER_DAYS - 1, slots, METER_SLOTS, store, SLOT_COUNT * P, sums, P) == 15 && store[0] == 9);
+    EXPECT(meter_start(ORDER, TAPS, SLOT_COUNT, days, METER_DAYS, slots, METER_SLOTS - 1, store, SLOT_COUNT * P, sums, P) == 15 && store[0] == 9);
+    EXPECT(meter_start(ORDER, TAPS, 65, days, METER_DAYS, slots, METER_SLOTS, store, SLOT_COUNT * P, sums, P) == 9);
+    EXPECT(meter_start(RECORD) == 0 && store[0] == 0);
+    EXPECT(meter_response(RECORD, r, P + 1, mean, P + 1, ROOM) == 14);
+    EXPECT(meter_summary(RECORD, ROOM, &stands, &highest, &lowest, &peak) == 0 && stands == 0 && highest == 9);
+    EXPECT(meter_enter(RECORD, 367, y, P, &state, &value) == 10 && state == 9 && value == 9);
+    EXPECT(meter_enter(RECORD, 1, y, P, &state, &value) == 0 && state == METER_STANDING && value == 0);
+    EXPECT(days[0] == METER_STANDING && slots[0] == 1 && store[1] == -3 && sums[1] == -3);
+    EXPECT(meter_enter(RECORD, 1, y, P, &state, &value) == 11);
+    EXPECT(meter_enter(RECORD, 2, still, P, &state, &value) == 0 && state == METER_DEAD && value == 0);
+    EXPECT(meter_enter(RECORD, 3, loud, P, &state, &value) == 0 && state == METER_OVERLOADED && value == 2);
+    EXPECT(meter_counts(RECORD, &unseen, &standing, &overloaded, &dead, &withdrawn) == 0);
+    EXPECT(unseen == 363 && standing == 1 && overloaded == 1 && dead == 1 && withdrawn == 0);
+    EXPECT(meter_response(RECORD, r, P + 1, mean, P + 1, ROOM) == 0);
+    EXPECT(memcmp(r, (int64_t[]){16, 0, -8, 0, 0, 0, 0, 9}, sizeof r) == 0 && mean[0] == 2 && mean[2] == -1);
+    EXPECT(meter_summary(RECORD, ROOM, &stands, &highest, &lowest, &peak) == 0 && stands == 1);
+    EXPECT(highest == 2 && lowest == -1 && peak == 2);
+    sums[0]++;
+    EXPECT(meter_counts(RECORD, &unseen, &standing, &overloaded, &dead, &withdrawn) == 15 && unseen == 363);
+    EXPECT(meter_withdraw(RECORD, 1) == 15);
+    sums[0]--;
+    EXPECT(meter_withdraw(RECORD, 2) == 13);
+    EXPECT(meter_withdraw(RECORD, 1) == 0 && days[0] == METER_WITHDRAWN && slots[0] == 0 && store[1] == 0 && sums[1] == 0);
+    EXPECT(days[METER_DAYS] == 9 && slots[METER_SLOTS] == 9);
+}
+
+int main(void) {
+    registers();
+    recordings();
+    campaigns();
+    printf("calls from C: %d expected, %d wrong\n", made, wrong);
+    return wrong != 0;
+}

@@ -1,0 +1,237 @@
+// Calls every function of the C door from Rust on document 01's numbers: the declarations, a safe function over each, and what it must answer.
+use std::process::ExitCode;
+
+mod declared {
+    #[rustfmt::skip]
+    extern "C" {
+        pub fn meter_taps(order: u32, taps: u32) -> u32;
+        pub fn meter_default_taps(order: u32, taps: &mut u32) -> u32;
+        pub fn meter_sequence(order: u32, taps: u32, out: *mut u8, out_len: usize) -> u32;
+        pub fn meter_player_new(order: u32, taps: u32, o: &mut u32, t: &mut u32, window: &mut u32, count: &mut u32) -> u32;
+        pub fn meter_player_step(order: &mut u32, taps: &mut u32, window: &mut u32, count: &mut u32, sign: &mut i32) -> u32;
+        pub fn meter_player_play(order: &mut u32, taps: &mut u32, window: &mut u32, count: &mut u32, signs: *mut i8, signs_len: usize) -> u32;
+        pub fn meter_recording(order: u32, taps: u32, y: *const i32, y_len: usize, out: *mut i64, out_len: usize,
+            room: *mut i64, room_len: usize, tags: *mut u16, tags_len: usize) -> u32;
+        pub fn meter_predict(order: u32, taps: u32, h: *const i32, h_len: usize, out: *mut i32, out_len: usize) -> u32;
+        pub fn meter_start(order: u32, taps: u32, slot_count: u32, days: *mut u8, days_len: usize, slots: *mut u16, slots_len: usize,
+            store: *mut i32, store_len: usize, sums: *mut i64, sums_len: usize) -> u32;
+        pub fn meter_enter(order: u32, taps: u32, slot_count: u32, days: *mut u8, days_len: usize, slots: *mut u16, slots_len: usize,
+            store: *mut i32, store_len: usize, sums: *mut i64, sums_len: usize,
+            day: u32, y: *const i32, y_len: usize, state: &mut u32, value: &mut usize) -> u32;
+        pub fn meter_withdraw(order: u32, taps: u32, slot_count: u32, days: *mut u8, days_len: usize, slots: *mut u16, slots_len: usize,
+            store: *mut i32, store_len: usize, sums: *mut i64, sums_len: usize, day: u32) -> u32;
+        pub fn meter_counts(order: u32, taps: u32, slot_count: u32, days: *const u8, days_len: usize, slots: *const u16, slots_len: usize,
+            store: *const i32, store_len: usize, sums: *const i64, sums_len: usize,
+            unseen: &mut u32, standing: &mut u32, overloaded: &mut u32, dead: &mut u32, withdrawn: &mut u32) -> u32;
+        pub fn meter_response(order: u32, taps: u32, slot_count: u32, days: *const u8, days_len: usize, slots: *const u16, slots_len: usize,
+            store: *const i32, store_len: usize, sums: *const i64, sums_len: usize, r: *mut i64, r_len: usize, mean: *mut i32, mean_len: usize,
+            room: *mut i64, room_len: usize, tags: *mut u16, tags_len: usize) -> u32;
+        pub fn meter_summary(order: u32, taps: u32, slot_count: u32, days: *const u8, days_len: usize, slots: *const u16, slots_len: usize,
+            store: *const i32, store_len: usize, sums: *const i64, sums_len: usize, room: *mut i64, room_len: usize, tags: *mut u16, tags_len: usize,
+            stands: &mut u32, highest: &mut f64, lowest: &mut f64, peak: &mut f64) -> u32;
+    }
+}
+
+// A Rust slice has what the door asks: it is not null, aligned, and no two `&mut` overlap.
+struct Player {
+    order: u32,
+    taps: u32,
+    window: u32,
+    count: u32,
+}
+
+fn taps(order: u32, taps: u32) -> u32 {
+    unsafe { declared::meter_taps(order, taps) }
+}
+
+fn default_taps(order: u32) -> Result<u32, u32> {
+    let mut taps = 0;
+    match unsafe { declared::meter_default_taps(order, &mut taps) } {
+        0 => Ok(taps),
+        n => Err(n),
+    }
+}
+
+fn sequence(order: u32, taps: u32, out: &mut [u8]) -> u32 {
+    unsafe { declared::meter_sequence(order, taps, out.as_mut_ptr(), out.len()) }
+}
+
+impl Player {
+    fn new(order: u32, taps: u32) -> Result<Player, u32> {
+        let mut p = Player { order: 0, taps: 0, window: 0, count: 0 };
+        let answer = unsafe {
+            declared::meter_player_new(order, taps, &mut p.order, &mut p.taps, &mut p.window, &mut p.count)
+        };
+        if answer == 0 { Ok(p) } else { Err(answer) }
+    }
+
+    fn step(&mut self) -> Result<i32, u32> {
+        let mut sign = 0;
+        let answer = unsafe {
+            declared::meter_player_step(&mut self.order, &mut self.taps, &mut self.window, &mut self.count, &mut sign)
+        };
+        if answer == 0 { Ok(sign) } else { Err(answer) }
+    }
+
+    fn play(&mut self, signs: &mut [i8]) -> u32 {
+        let (at, n) = (signs.as_mut_ptr(), signs.len());
+        unsafe {
+            declared::meter_player_play(&mut self.order, &mut self.taps, &mut self.window, &mut self.count, at, n)
+        }
+    }
+}
+
+struct Room {
+    wide: Vec<i64>,
+    tags: Vec<u16>,
+}
+
+impl Room {
+    fn new(p: usize) -> Room {
+        Room { wide: vec![5; p + 1], tags: vec![5; 2 * p] }
+    }
+
+    fn is_clear(&self) -> bool {
+        self.wide.iter().all(|&v| v == 0) && self.tags.iter().all(|&v| v == 0)
+    }
+}
+
+fn recording(order: u32, taps: u32, y: &[i32], out: &mut [i64], room: &mut Room) -> u32 {
+    unsafe {
+        declared::meter_recording(
+            order, taps, y.as_ptr(), y.len(), out.as_mut_ptr(), out.len(),
+            room.wide.as_mut_ptr(), room.wide.len(), room.tags.as_mut_ptr(), room.tags.len(),
+        )
+    }
+}
+
+fn predict(order: u32, taps: u32, h: &[i32], out: &mut [i32]) -> u32 {
+    unsafe { declared::meter_predict(order, taps, h.as_ptr(), h.len(), out.as_mut_ptr(), out.len()) }
+}
+
+struct Campaign {
+    order: u32,
+    taps: u32,
+    slot_count: u32,
+    days: Vec<u8>,
+    slots: Vec<u16>,
+    store: Vec<i32>,
+    sums: Vec<i64>,
+}
+
+macro_rules! lent {
+    ($call:ident, $c:expr, $ptr:ident $(, $more:expr)*) => {
+        unsafe {
+            declared::$call(
+                $c.order, $c.taps, $c.slot_count, $c.days.$ptr(), $c.days.len(), $c.slots.$ptr(), $c.slots.len(),
+                $c.store.$ptr(), $c.store.len(), $c.sums.$ptr(), $c.sums.len() $(, $more)*
+            )
+        }
+    };
+}
+
+impl Campaign {
+    fn start(order: u32, taps: u32, slot_count: u32, days: usize) -> Result<Campaign, u32> {
+        let p = (1usize << order) - 1;
+        let mut c = Campaign {
+            order,
+            taps,
+            slot_count,
+            days: vec![9; days],
+            slots: vec![9; 64],
+            store: vec![9; slot_count as usize * p],
+            sums: vec![9; p],
+        };
+        let answer = lent!(meter_start, c, as_mut_ptr);
+        if answer == 0 { Ok(c) } else { Err(answer) }
+    }
+
+    fn enter(&mut self, day: u32, y: &[i32]) -> Result<(u32, usize), u32> {
+        let (mut state, mut value) = (0, 0);
+        match lent!(meter_enter, self, as_mut_ptr, day, y.as_ptr(), y.len(), &mut state, &mut value) {
+            0 => Ok((state, value)),
+            n => Err(n),
+        }
+    }
+
+    fn withdraw(&mut self, day: u32) -> u32 {
+        lent!(meter_withdraw, self, as_mut_ptr, day)
+    }
+
+    fn counts(&self) -> Result<[u32; 5], u32> {
+        let [mut u, mut s, mut o, mut d, mut w] = [0; 5];
+        match lent!(meter_counts, self, as_ptr, &mut u, &mut s, &mut o, &mut d, &mut w) {
+            0 => Ok([u, s, o, d, w]),
+            n => Err(n),
+        }
+    }
+
+    fn response(&self, r: &mut [i64], mean: &mut [i32], room: &mut Room) -> u32 {
+        let (rp, rn, mp, mn) = (r.as_mut_ptr(), r.len(), mean.as_mut_ptr(), mean.len());
+        let (wp, wn, tp, tn) = (room.wide.as_mut_ptr(), room.wide.len(), room.tags.as_mut_ptr(), room.tags.len());
+        lent!(meter_response, self, as_ptr, rp, rn, mp, mn, wp, wn, tp, tn)
+    }
+
+    // The three levels, or none where nothing stands.
+    fn summary(&self, room: &mut Room) -> Result<Option<[f64; 3]>, u32> {
+        let (mut stands, [mut high, mut low, mut peak]) = (9, [0.0; 3]);
+        let (wp, wn, tp, tn) = (room.wide.as_mut_ptr(), room.wide.len(), room.tags.as_mut_ptr(), room.tags.len());
+        match lent!(meter_summary, self, as_ptr, wp, wn, tp, tn, &mut stands, &mut high, &mut low, &mut peak) {
+            0 => Ok((stands == 1).then_some([high, low, peak])),
+            n => Err(n),
+        }
+    }
+}
+
+fn main() -> ExitCode {
+    let mut facts: Vec<(&str, bool)> = Vec::new();
+    macro_rules! expect {
+        ($fact:expr) => {
+            facts.push((stringify!($fact), $fact))
+        };
+    }
+    const Y: [i32; 7] = [-1, -3, -1, 3, 3, -3, 1];
+    const R: [i64; 7] = [16, 0, -8, 0, 0, 0, 0];
+
+    expect!([taps(2, 3), taps(2, 1), taps(2, 2), taps(2, 4), taps(17, 3)] == [0, 4, 3, 2, 1]);
+    expect!([default_taps(16), default_taps(1)] == [Ok(45), Err(1)]);
+    let mut bits = [9u8; 8];
+    expect!(sequence(3, 5, &mut bits) == 0);
+    expect!(bits == [1, 1, 1, 0, 1, 0, 0, 9]);
+    let mut player = Player::new(3, 3).expect("taps 3 have tap 0");
+    expect!(player.step() == Ok(-1));
+    let mut signs = [0i8; 6];
+    expect!(player.play(&mut signs) == 0);
+    expect!(signs == [-1, -1, 1, 1, -1, 1]);
+    player.window = 0;
+    expect!(player.step() == Err(16));
+
+    let (mut room, mut r, mut y) = (Room::new(7), [0i64; 7], [0i32; 7]);
+    expect!(predict(3, 3, &[2, 0, -1, 0, 0, 0, 0], &mut y) == 0);
+    expect!(y == Y);
+    expect!(recording(3, 3, &Y, &mut r, &mut room) == 0);
+    expect!(r == R && room.is_clear());
+    expect!(recording(3, 3, &Y[..6], &mut r, &mut room) == 5);
+
+    expect!(Campaign::start(3, 3, 2, 365).err() == Some(15));
+    let mut c = Campaign::start(3, 3, 2, 366).expect("01's example starts");
+    expect!(c.summary(&mut room) == Ok(None));
+    expect!(c.enter(1, &Y) == Ok((1, 0)));
+    expect!(c.enter(2, &[5; 7]) == Ok((3, 0)));
+    expect!(c.enter(3, &[0, 0, 0, 8388607, 0, 0, 0]) == Ok((2, 3)));
+    expect!(c.enter(1, &Y) == Err(11));
+    expect!(c.counts() == Ok([363, 1, 1, 1, 0]));
+    let mut mean = [0i32; 7];
+    expect!(c.response(&mut r, &mut mean, &mut room) == 0);
+    expect!(r == R && mean == [2, 0, -1, 0, 0, 0, 0]);
+    expect!(c.summary(&mut room) == Ok(Some([2.0, -1.0, 2.0])));
+    expect!(c.withdraw(1) == 0 && c.withdraw(1) == 13);
+    expect!(c.response(&mut r, &mut mean, &mut room) == 14);
+
+    let wrong: Vec<_> = facts.iter().filter(|(_, held)| !held).collect();
+    for (fact, _) in &wrong {
+        println!("wrong: {fact}");
+    }
+    println!("calls from Rust: {} expected, {} wrong", facts.len(), wrong.len());
+    ExitCode::from(u8::from(!wrong.is_empty()))
+}

@@ -1,0 +1,96 @@
+/* The response meter, from C. Link libmeter.a, which `rt staticlib meter` writes.
+ *
+ * Each function answers 0, or document 01's refusal number; a refused call leaves all that it was lent as it was.
+ * A slice is a pointer and a length in elements. A pointer is never NULL, is aligned for its element, and what two
+ * pointers of one call lend does not overlap, unless both are const. Nothing is kept after the call.
+ * P is 2^order - 1. Samples are -8388608 to 8388607. What is lent beyond the lengths named here is never changed.
+ */
+#ifndef METER_H
+#define METER_H
+
+#include <stddef.h>
+#include <stdint.h>
+
+#ifdef __cplusplus
+extern "C" {
+#endif
+
+enum { METER_DAYS = 366, METER_SLOTS = 64 };
+
+/* A day's state, in the table of days and as the state that a verdict gives. */
+enum { METER_UNSEEN, METER_STANDING, METER_OVERLOADED, METER_DEAD, METER_WITHDRAWN };
+
+/* ---- the register ---- */
+
+/* Whether the taps are maximal for the order: 1, 2, 3, 4. */
+uint32_t meter_taps(uint32_t order, uint32_t taps);
+
+/* The order's default taps: 1. */
+uint32_t meter_default_taps(uint32_t order, uint32_t *taps);
+
+/* The bits s(0) to s(P-1): 1, 2, 3, 4, 6. */
+uint32_t meter_sequence(uint32_t order, uint32_t taps, uint8_t *out, size_t out_len);
+
+/* A player of this order and these taps, as its four numbers: 1, 2, 3. */
+uint32_t meter_player_new(uint32_t order, uint32_t taps,
+                          uint32_t *player_order, uint32_t *player_taps, uint32_t *window, uint32_t *count);
+
+/* The player's next sign, +1 or -1, and the player one step on: 1, 2, 3, 16. */
+uint32_t meter_player_step(uint32_t *order, uint32_t *taps, uint32_t *window, uint32_t *count, int32_t *sign);
+
+/* The next signs, one to each place, and the player after them: 1, 2, 3, 16. */
+uint32_t meter_player_play(uint32_t *order, uint32_t *taps, uint32_t *window, uint32_t *count,
+                           int8_t *signs, size_t signs_len);
+
+/* ---- one recording ---- */
+
+/* The response r(0) to r(P-1) of a recording of P samples. The room is P+1 wide numbers and 2P tags; it holds zeros after it:
+ * 1 to 7. */
+uint32_t meter_recording(uint32_t order, uint32_t taps, const int32_t *y, size_t y_len, int64_t *out, size_t out_len,
+                         int64_t *room, size_t room_len, uint16_t *tags, size_t tags_len);
+
+/* The recording predicted from a response of P samples: 1 to 8. It uses half a megabyte of stack. */
+uint32_t meter_predict(uint32_t order, uint32_t taps, const int32_t *h, size_t h_len, int32_t *out, size_t out_len);
+
+/* ---- a campaign: the record is order, taps and slot_count, which no call changes, and the two tables `days` (366) and `slots` (64).
+ * A shorter table is refused with 15 before all else. The store is slot_count * P samples, the sums P wide numbers. ---- */
+
+/* Every day unseen, every slot free, zeros in the store and the sums: 15 (tables), 1, 2, 3, 4, 9, 6. */
+uint32_t meter_start(uint32_t order, uint32_t taps, uint32_t slot_count, uint8_t *days, size_t days_len,
+                     uint16_t *slots, size_t slots_len, int32_t *store, size_t store_len, int64_t *sums, size_t sums_len);
+
+/* A day's recording judged: 15, 10, 5, 7, 11, and 12 after the verdict. `state` is the state that the verdict gives the day, and `value` the slot
+ * of one that stands, the first place at a rail of one that is overloaded, 0 of one that is dead. */
+uint32_t meter_enter(uint32_t order, uint32_t taps, uint32_t slot_count, uint8_t *days, size_t days_len,
+                     uint16_t *slots, size_t slots_len, int32_t *store, size_t store_len, int64_t *sums, size_t sums_len,
+                     uint32_t day, const int32_t *y, size_t y_len, uint32_t *state, size_t *value);
+
+/* A standing day withdrawn: 15, 10, 13. */
+uint32_t meter_withdraw(uint32_t order, uint32_t taps, uint32_t slot_count, uint8_t *days, size_t days_len,
+                        uint16_t *slots, size_t slots_len, int32_t *store, size_t store_len, int64_t *sums, size_t sums_len,
+                        uint32_t day);
+
+/* The days in each of the five states: 15. */
+uint32_t meter_counts(uint32_t order, uint32_t taps, uint32_t slot_count, const uint8_t *days, size_t days_len,
+                      const uint16_t *slots, size_t slots_len, const int32_t *store, size_t store_len,
+                      const int64_t *sums, size_t sums_len,
+                      uint32_t *unseen, uint32_t *standing, uint32_t *overloaded, uint32_t *dead, uint32_t *withdrawn);
+
+/* r worked from the sums, and the mean over the standing days, P places each: 15, 6, 14. The room as for one recording. */
+uint32_t meter_response(uint32_t order, uint32_t taps, uint32_t slot_count, const uint8_t *days, size_t days_len,
+                        const uint16_t *slots, size_t slots_len, const int32_t *store, size_t store_len,
+                        const int64_t *sums, size_t sums_len, int64_t *r, size_t r_len, int32_t *mean, size_t mean_len,
+                        int64_t *room, size_t room_len, uint16_t *tags, size_t tags_len);
+
+/* The highest r, the lowest r and r at the peak, each over (P+1) times the days standing: 15, 6. Where no day stands, `stands` becomes 0 and the
+ * levels and the room stay as they were; where one does, `stands` becomes 1. */
+uint32_t meter_summary(uint32_t order, uint32_t taps, uint32_t slot_count, const uint8_t *days, size_t days_len,
+                       const uint16_t *slots, size_t slots_len, const int32_t *store, size_t store_len,
+                       const int64_t *sums, size_t sums_len, int64_t *room, size_t room_len, uint16_t *tags, size_t tags_len,
+                       uint32_t *stands, double *highest, double *lowest, double *peak);
+
+#ifdef __cplusplus
+}
+#endif
+
+#endif

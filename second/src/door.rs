@@ -1,0 +1,434 @@
+//! Random calls of every function that the C door has, each with the line that it prints. `door/random.c` draws the same calls in
+//! the same order and makes them through the door.
+
+use crate::campaign::{self, Campaign, DayState, Lent, DAYS, MOST_SLOTS};
+use crate::player::Player;
+use crate::reading::Summary;
+use crate::refusal::{number, Refusal, DOES_NOT_HOLD_TOGETHER};
+use crate::register::{check_taps, default_taps, sequence};
+use crate::response::{one_recording, predict};
+use crate::rng::Rng;
+use crate::room::Room;
+use crate::year_memory::digest_of;
+use std::io::{self, Write};
+
+/// Prints the lines of the cases 0 to `count` - 1.
+pub fn print(seed: u64, count: u64, out: &mut impl Write) -> io::Result<()> {
+    for case in 0..count {
+        let mut rng = Rng::for_log(seed, case);
+        let lines = match rng.below(8) {
+            0 => taps_case(&mut rng),
+            1 => sequence_case(&mut rng),
+            2 => player_case(&mut rng),
+            3 => recording_case(&mut rng),
+            4 => predict_case(&mut rng),
+            _ => campaign_case(&mut rng),
+        };
+        for line in lines {
+            writeln!(out, "{case} {line}")?;
+        }
+    }
+    Ok(())
+}
+
+// ---- the draws
+
+fn any_order(rng: &mut Rng) -> u32 {
+    match rng.below(40) {
+        0 => rng.pick(&[0, 1, 17, 33]),
+        1..=4 => 11 + rng.below(6) as u32,
+        _ => 2 + rng.below(9) as u32,
+    }
+}
+
+fn any_taps(rng: &mut Rng, order: u32) -> u32 {
+    if !(2..=16).contains(&order) {
+        return rng.below(65536) as u32;
+    }
+    let all = 1 << order;
+    let taps = match rng.below(12) {
+        0 => all + rng.below(4),
+        1 => 2 * rng.below(all / 2),
+        2 | 3 => rng.below(all),
+        _ => default_taps(order).expect("the order is in range") as usize,
+    };
+    taps as u32
+}
+
+fn near(rng: &mut Rng, n: usize) -> usize {
+    match rng.below(12) {
+        0 => n - 1,
+        1..=6 => n,
+        _ => n + rng.below(5),
+    }
+}
+
+fn period_of(order: u32) -> usize {
+    if (2..=16).contains(&order) {
+        (1 << order) - 1
+    } else {
+        7
+    }
+}
+
+fn samples(rng: &mut Rng, n: usize) -> Vec<i32> {
+    let style = rng.below(5);
+    let still = rng.between(-8_388_608, 8_388_607);
+    let rail = rng.below(n);
+    let mut sample = |j: usize| match style {
+        0 => still,
+        1 if j == rail => 8_388_608,
+        2 if j == rail => -8_388_608,
+        1 | 2 => rng.between(-100, 100),
+        3 => rng.between(-8_388_607, 8_388_606),
+        _ => rng.between(-50, 50),
+    };
+    (0..n).map(&mut sample).collect()
+}
+
+fn any_day(rng: &mut Rng) -> u16 {
+    if rng.once_in(20) {
+        rng.pick(&[0, 367, 366, 400])
+    } else {
+        1 + rng.below(6) as u16
+    }
+}
+
+/// Place i holds i mod 7 at first.
+fn filled<T: From<u8>>(length: usize) -> Vec<T> {
+    (0..length).map(|i| T::from((i % 7) as u8)).collect()
+}
+
+// ---- the cases
+
+fn taps_case(rng: &mut Rng) -> Vec<String> {
+    let order = any_order(rng);
+    let taps = any_taps(rng, order);
+    let found = default_taps(order);
+    vec![
+        format!("taps {}", number(&check_taps(order, taps))),
+        format!("default {} {}", number(&found), found.unwrap_or(7)),
+    ]
+}
+
+fn sequence_case(rng: &mut Rng) -> Vec<String> {
+    let order = any_order(rng);
+    let taps = any_taps(rng, order);
+    let mut out: Vec<u8> = filled(near(rng, period_of(order)));
+    let answer = number(&sequence(order, taps, &mut out));
+    vec![format!("sequence {answer} {}", digest_of(&out))]
+}
+
+fn player_case(rng: &mut Rng) -> Vec<String> {
+    let order = any_order(rng);
+    let taps = any_taps(rng, order);
+    let made = Player::new(order, taps);
+    let answer = number(&made);
+    let mut player = made.unwrap_or(Player {
+        order: 1,
+        taps: 2,
+        window: 3,
+        count: 4,
+    });
+    let shown = |p: &Player| format!("{} {} {} {}", p.order, p.taps, p.window, p.count);
+    let mut lines = vec![format!("new {answer} {}", shown(&player))];
+    if rng.once_in(4) {
+        player.window = rng.below(131_072) as u32;
+    }
+    if rng.once_in(4) {
+        player.count = u32::MAX - rng.below(4) as u32;
+    }
+    let mut sign = 9;
+    for _ in 0..rng.below(20) {
+        let stepped = player.step();
+        sign = stepped.unwrap_or(sign);
+        let answer = number(&stepped);
+        lines.push(format!("step {answer} {sign} {}", shown(&player)));
+    }
+    let n = rng.below(40);
+    let mut signs: Vec<i64> = filled(n + 1);
+    // A block of no places is refused for the same causes.
+    let answer = number(&player.clone().step());
+    if answer == 0 {
+        for place in &mut signs[..n] {
+            *place = i64::from(player.step().expect("an accepted player stays so"));
+        }
+    }
+    let digest = digest_of(&signs);
+    lines.push(format!("play {answer} {digest} {}", shown(&player)));
+    lines
+}
+
+fn recording_case(rng: &mut Rng) -> Vec<String> {
+    let order = any_order(rng);
+    let taps = any_taps(rng, order);
+    let p = period_of(order);
+    let n = near(rng, p);
+    let mut out: Vec<i64> = filled(near(rng, p));
+    let mut wide: Vec<i64> = filled(near(rng, p + 1));
+    let mut tags: Vec<u32> = filled(near(rng, 2 * p));
+    let y = samples(rng, n);
+    let room = &mut Room {
+        wide: &mut wide,
+        tags: &mut tags,
+    };
+    let answer = number(&one_recording(order, taps, &y, &mut out, room));
+    vec![format!(
+        "recording {answer} {} {} {}",
+        digest_of(&out),
+        digest_of(&wide),
+        digest_of(&tags)
+    )]
+}
+
+fn predict_case(rng: &mut Rng) -> Vec<String> {
+    let order = any_order(rng);
+    let taps = any_taps(rng, order);
+    let p = period_of(order);
+    let n = near(rng, p);
+    let mut out: Vec<i32> = filled(near(rng, p));
+    let h = samples(rng, n);
+    let answer = number(&predict(order, taps, &h, &mut out));
+    vec![format!("predict {answer} {}", digest_of(&out))]
+}
+
+/// What a campaign's caller holds: the record's numbers and tables, and the memory.
+struct Held {
+    order: u32,
+    taps: u32,
+    count: u32,
+    days: Vec<u8>,
+    slots: Vec<u16>,
+    lent: Lent,
+}
+
+fn state_of(byte: u8) -> Option<DayState> {
+    use DayState::*;
+    [Unseen, Standing, Overloaded, Dead, Withdrawn]
+        .get(byte as usize)
+        .copied()
+}
+
+impl Held {
+    fn tables_long(&self) -> bool {
+        self.days.len() >= DAYS && self.slots.len() >= MOST_SLOTS
+    }
+
+    /// The record, or refusal 15 where a table is short or a state is none of the five.
+    fn record(&self) -> Result<Campaign, Refusal> {
+        if !self.tables_long() {
+            return Err(DOES_NOT_HOLD_TOGETHER);
+        }
+        let states: Option<Vec<DayState>> =
+            self.days[..DAYS].iter().map(|&b| state_of(b)).collect();
+        let days = states.ok_or(DOES_NOT_HOLD_TOGETHER)?;
+        Ok(Campaign {
+            order: self.order,
+            taps: self.taps,
+            slots: self.count,
+            days: days.try_into().expect("366 of them"),
+            table: self.slots[..MOST_SLOTS].try_into().expect("64 of them"),
+        })
+    }
+
+    fn write_back(&mut self, record: &Campaign) {
+        for (byte, &state) in self.days.iter_mut().zip(&record.days) {
+            *byte = state as u8;
+        }
+        self.slots[..MOST_SLOTS].copy_from_slice(&record.table);
+    }
+
+    fn start(&mut self) -> Refusal {
+        if !self.tables_long() {
+            return DOES_NOT_HOLD_TOGETHER;
+        }
+        let Lent { store, sums } = &mut self.lent;
+        let started = campaign::start(self.order, self.taps, self.count, store, sums);
+        if let Ok(record) = &started {
+            self.write_back(record);
+        }
+        number(&started)
+    }
+
+    /// The answer, and the state and value that a verdict gives, 9 and 9 where it gives none.
+    fn enter(&mut self, day: u16, y: &[i32]) -> (Refusal, u32, usize) {
+        use crate::entering::Verdict;
+        let mut record = match self.record() {
+            Ok(record) => record,
+            Err(refusal) => return (refusal, 9, 9),
+        };
+        let verdict = record.enter(&mut self.lent, day, y).verdict;
+        self.write_back(&record);
+        match verdict {
+            Verdict::Kept { slot } => (0, 1, slot),
+            Verdict::Overloaded { place } => (0, 2, place),
+            Verdict::Dead => (0, 3, 0),
+            Verdict::Refused(refusal) => (refusal, 9, 9),
+        }
+    }
+
+    fn withdraw(&mut self, day: u16) -> Refusal {
+        let mut record = match self.record() {
+            Ok(record) => record,
+            Err(refusal) => return refusal,
+        };
+        let answer = number(&record.withdraw(&mut self.lent, day));
+        self.write_back(&record);
+        answer
+    }
+
+    fn memory(&self) -> String {
+        format!(
+            "{} {} {} {}",
+            digest_of(&self.days),
+            digest_of(&self.slots),
+            digest_of(&self.lent.store),
+            digest_of(&self.lent.sums)
+        )
+    }
+}
+
+fn counts_line(held: &Held) -> (Refusal, String) {
+    match held.record().and_then(|c| c.counts(&held.lent)) {
+        Ok(n) => (
+            0,
+            format!(
+                "counts 0 {} {} {} {} {}",
+                n.unseen, n.standing, n.overloaded, n.dead, n.withdrawn
+            ),
+        ),
+        Err(refusal) => (refusal, format!("counts {refusal} 9 9 9 9 9")),
+    }
+}
+
+fn response_line(held: &Held, rng: &mut Rng, summed: bool) -> (Refusal, String) {
+    let p = period_of(held.order);
+    let mut r: Vec<i64> = filled(near(rng, p));
+    let mut means: Vec<i32> = filled(near(rng, p));
+    let mut wide: Vec<i64> = filled(near(rng, p + 1));
+    let mut tags: Vec<u32> = filled(near(rng, 2 * p));
+    let room = &mut Room {
+        wide: &mut wide,
+        tags: &mut tags,
+    };
+    if !summed {
+        let answer = held
+            .record()
+            .and_then(|c| c.response(&held.lent, &mut r, &mut means, room));
+        let answer = number(&answer);
+        let line = format!(
+            "response {answer} {} {} {} {}",
+            digest_of(&r),
+            digest_of(&means),
+            digest_of(&wide),
+            digest_of(&tags)
+        );
+        return (answer, line);
+    }
+    let found = match held.record() {
+        Ok(c) => c.summary(&held.lent, room),
+        Err(refusal) => Summary::Refused(refusal),
+    };
+    let (answer, stands, levels) = match found {
+        Summary::NothingStands => (0, 0, [9.0; 3]),
+        Summary::Levels(l) => (0, 1, [l.highest, l.lowest, l.at_peak]),
+        Summary::Refused(refusal) => (refusal, 9, [9.0; 3]),
+    };
+    let [high, low, peak] = levels.map(f64::to_bits);
+    let line = format!(
+        "summary {answer} {stands} {high} {low} {peak} {} {}",
+        digest_of(&wide),
+        digest_of(&tags)
+    );
+    (answer, line)
+}
+
+/// A campaign: its start, and a run of calls on what that left, some on a damaged record.
+fn campaign_case(rng: &mut Rng) -> Vec<String> {
+    let order = any_order(rng);
+    let taps = any_taps(rng, order);
+    let p = period_of(order);
+    let mut count = 1 + rng.below(if order >= 12 { 3 } else { 8 }) as u32;
+    if rng.once_in(15) && order < 12 {
+        count = rng.pick(&[0, 65, 64]);
+    }
+    let store = filled(near(rng, count.max(1) as usize * p));
+    let sums = filled(near(rng, p));
+    let days = if rng.once_in(20) {
+        365
+    } else {
+        366 + rng.below(3)
+    };
+    let slots = if rng.once_in(20) {
+        63
+    } else {
+        64 + rng.below(3)
+    };
+    let mut held = Held {
+        order,
+        taps,
+        count,
+        days: filled(days),
+        slots: filled(slots),
+        lent: Lent { store, sums },
+    };
+    let answer = held.start();
+    let mut lines = vec![format!("start {answer} {}", held.memory())];
+    let steps = if order >= 12 {
+        2 + rng.below(3)
+    } else {
+        3 + rng.below(12)
+    };
+    for _ in 0..steps {
+        let what = rng.below(10);
+        let damage = if rng.once_in(6) { rng.below(5) } else { 9 };
+        let place = rng.below(60);
+        let (in_store, in_sums) = (place % held.lent.store.len(), place % held.lent.sums.len());
+        let was = (
+            held.days[place],
+            held.slots[place],
+            held.lent.store[in_store],
+            held.lent.sums[in_sums],
+            held.count,
+        );
+        match damage {
+            0 => held.days[place] += 1,
+            1 => held.slots[place] ^= 1,
+            2 => held.lent.store[in_store] += 1,
+            3 => held.lent.sums[in_sums] -= 1,
+            4 => held.count += 1,
+            _ => {}
+        }
+        let (answer, line) = match what {
+            0..=4 => {
+                let day = any_day(rng);
+                let n = if rng.once_in(15) {
+                    p - 1 + 2 * rng.below(2)
+                } else {
+                    p
+                };
+                let y = samples(rng, n);
+                let (answer, state, value) = held.enter(day, &y);
+                (
+                    answer,
+                    format!("enter {answer} {state} {value} {}", held.memory()),
+                )
+            }
+            5 | 6 => {
+                let answer = held.withdraw(any_day(rng));
+                (answer, format!("withdraw {answer} {}", held.memory()))
+            }
+            7 => counts_line(&held),
+            _ => response_line(&held, rng, what == 9),
+        };
+        lines.push(line);
+        if answer == DOES_NOT_HOLD_TOGETHER {
+            held.days[place] = was.0;
+            held.slots[place] = was.1;
+            held.lent.store[in_store] = was.2;
+            held.lent.sums[in_sums] = was.3;
+            held.count = was.4;
+        }
+    }
+    lines
+}
