@@ -1,5 +1,6 @@
 /* Times the proved meter beside plain C, in one process: for each order and each piece of work the best and the median of the rounds, in
- * microseconds, one line each: order, name, best, median. Each round runs every piece once, so that all see the same machine. */
+ * microseconds, one line each: order, name, best, median. Each round runs every piece of its group once, so that all see the same machine: first
+ * what turns one recording, then what goes over the store. */
 #include "meter.h"
 #include "plain.h"
 #include <math.h>
@@ -91,7 +92,7 @@ static struct {
     {"predict", predict, {0}}, {"plain_predict", prediction, {0}},
     {"enter", enter, {0}}, {"pass", pass, {0}}, {"response", response, {0}}, {"withdraw", withdraw, {0}},
 };
-enum { PIECES = sizeof pieces / sizeof *pieces };
+enum { PIECES = sizeof pieces / sizeof *pieces, OVER_THE_STORE = PIECES - 4 };
 
 static double now(void) {
     struct timespec t;
@@ -143,6 +144,19 @@ static void begin(uint32_t n) {
 #endif
 }
 
+static void rounds(int first, int end) {
+    for (int round = -2; round < ROUNDS; round++)
+        for (int i = first; i < end; i++) {
+            if (pieces[i].work == paper || pieces[i].work == ready)
+                plain_tags(order, taps, tags, tags + p);
+            double from = now();
+            pieces[i].work();
+            double to = now();
+            if (round >= 0)
+                pieces[i].times[round] = to - from;
+        }
+}
+
 int main(void) {
     static const uint32_t orders[3] = {9, 12, 16};
     store = malloc(SLOT_COUNT * MOST_P * sizeof *store);
@@ -160,16 +174,8 @@ int main(void) {
     paper_out = malloc(MOST_P * sizeof *paper_out);
     for (int n = 0; n < 3; n++) {
         begin(orders[n]);
-        for (int round = -2; round < ROUNDS; round++)
-            for (int i = 0; i < PIECES; i++) {
-                if (pieces[i].work == paper || pieces[i].work == ready)
-                    plain_tags(order, taps, tags, tags + p);
-                double from = now();
-                pieces[i].work();
-                double to = now();
-                if (round >= 0)
-                    pieces[i].times[round] = to - from;
-            }
+        rounds(0, OVER_THE_STORE);
+        rounds(OVER_THE_STORE, PIECES);
         for (int i = 0; i < PIECES; i++) {
             qsort(pieces[i].times, ROUNDS, sizeof(double), smaller);
             printf("%u %s %.2f %.2f\n", order, pieces[i].name, pieces[i].times[0], pieces[i].times[ROUNDS / 2]);
