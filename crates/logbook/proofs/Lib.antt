@@ -1,0 +1,2 @@
+-- The laws of a campaign's log.
+pub mod Standing
