@@ -1,7 +1,15 @@
 // A campaign's log: its records, the state between them, what each does, and the lines as bytes.
+pub mod applying;
 pub mod decoding;
 
+use campaign::Entry;
+use campaign::Tally;
 use records::Campaign;
+
+// The largest order and the most slots that the program takes.
+pub const MOST_ORDER: u32 = 9;
+
+pub const MOST_SLOTS: u32 = 8;
 
 // Where the log stands between records.
 pub enum Phase {
@@ -36,4 +44,29 @@ pub enum Found {
     Bad,
     // The end of the input, where it may be.
     End,
+}
+
+// The state between records, beside the memory lent.
+pub struct Book {
+    pub phase: Phase,
+    pub campaign: Campaign,
+}
+
+// The line that a record makes.
+pub enum Line {
+    Silent,
+    // The answer.
+    Started(u32),
+    Entered(Entry),
+    // The day and the answer.
+    Withdrawn(u32, u32),
+    // The answer and the counts.
+    Answered(u32, Tally),
+}
+
+pub struct Applied {
+    pub book: Book,
+    pub line: Line,
+    // How many lines of the response follow.
+    pub rows: usize,
 }
