@@ -1,2 +1,3 @@
 -- The laws of a campaign's log.
 pub mod Standing
+mod Writing

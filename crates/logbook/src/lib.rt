@@ -1,6 +1,7 @@
 // A campaign's log: its records, the state between them, what each does, and the lines as bytes.
 pub mod applying;
 pub mod decoding;
+pub mod printing;
 
 use campaign::Entry;
 use campaign::Tally;
@@ -69,4 +70,10 @@ pub struct Applied {
     pub line: Line,
     // How many lines of the response follow.
     pub rows: usize,
+}
+
+// A line's bytes: the first `length` of them.
+pub struct Text {
+    pub bytes: [u8; 128],
+    pub length: usize,
 }
