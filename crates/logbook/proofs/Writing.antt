@@ -9,7 +9,7 @@ use native.Mathlib.Omega.{arith}
 use borrow.Author.Tests.{lt-ltb, le-ltb, ltb-true}
 use lib.Dec.{ltb}
 use lib.IntN.{ℤ, pos, negsuc, natAbs, _-ℤ_}
-use lib.ListN.{length, take, drop, getD, set, length-append, length-drop, length-set}
+use lib.ListN.{length, take, drop, getD, set, length-append, length-take, length-drop, length-set}
 use lib.Seq.{take-suc, take-suc-set, take-all, take-length, drop-cons, drop-length, drop-set-lt, getD-set-same}
 use lib.Signed.{ltZ, mag}
 use Rattle.sums.proofs.Diff.{diff, negsuc-diff, diffs, ints}
@@ -32,6 +32,10 @@ wrote-more {a} {b} {k} {m} {n} {l} {s} {t} v w =
 
 pub wrote-two : (a b : List ℕ) {x : List ℕ} {k m n : ℕ} {l s t : List ℕ} → Wrote x k l m s → Wrote (a ++ b) m s n t → Wrote (x ++ a ++ b) k l n t
 wrote-two a b {x} v w = rw (append-assoc x a b) (wrote-more v w)
+
+-- a text from the front of a buffer lies in it
+pub wrote-inside : {text : List ℕ} {n : ℕ} {l s : List ℕ} → Wrote text 0 l n s → n ≤ length s
+wrote-inside {text} {n} {l} {s} w = omega (arith, simp length-take at (ap length (w .is)), w .size)
 
 -- the end of a room, as a part of it
 pub wrote-tail : (size from : ℕ) (room : List ℕ) {text : List ℕ} → length room ≡ size → drop from room ≡ text → {k n : ℕ} {l s : List ℕ}

@@ -1,6 +1,7 @@
 // A campaign's log: its records, the state between them, what each does, and the lines as bytes.
 pub mod applying;
 pub mod decoding;
+pub mod feeding;
 pub mod printing;
 
 use campaign::Entry;

@@ -205,7 +205,7 @@ fn write_bad(offset: u64, out: &mut [u8]) -> usize
 
 // The line that a record makes.
 pub fn line_text(line: Line) -> Text
-    ensures { λ r. ⌜ take (r .length) (r .bytes) ≡ lineBytes line ⌝ }
+    ensures { λ r. ⌜ (take (r .length) (r .bytes) ≡ lineBytes line) × (r .length ≤ 128) ⌝ }
 {
     let mut bytes = [0u8; 128];
     let length = write_line(line, &mut bytes);
@@ -214,7 +214,7 @@ pub fn line_text(line: Line) -> Text
 
 // A line of the response.
 pub fn row_text(k: u64, r: i64, mean: i64) -> Text
-    ensures { λ x. ⌜ take (x .length) (x .bytes) ≡ rowBytes k r mean ⌝ }
+    ensures { λ x. ⌜ (take (x .length) (x .bytes) ≡ rowBytes k r mean) × (x .length ≤ 128) ⌝ }
 {
     let mut bytes = [0u8; 128];
     let length = write_row(k, r, mean, &mut bytes);
@@ -223,7 +223,7 @@ pub fn row_text(k: u64, r: i64, mean: i64) -> Text
 
 // The last line of a log that is bad at this offset.
 pub fn bad_text(offset: u64) -> Text
-    ensures { λ r. ⌜ take (r .length) (r .bytes) ≡ badBytes offset ⌝ }
+    ensures { λ r. ⌜ (take (r .length) (r .bytes) ≡ badBytes offset) × (r .length ≤ 128) ⌝ }
 {
     let mut bytes = [0u8; 128];
     let length = write_bad(offset, &mut bytes);
