@@ -1,0 +1,149 @@
+-- Document 01, "The log program": what each record does to the state between records and to the memory lent, and the line that it makes,
+-- by the campaign's calls. Assumes nothing.
+use mathlib.Core.List.{List, [], _∷_, _++_}
+use mathlib.Core.Bool.{Bool, cond, _||_}
+use Prim.Native.Nat.{ℕ, _+_}
+use lib.Dec.{ltb, leb}
+use lib.IntN.{ℤ}
+use lib.ListN.{length, take, set}
+use Rattle.sums.specs.Refusals.{answered, outcome}
+use Rattle.register.specs.Register.{P}
+use Rattle.register.specs.Calls.{tapsChecks}
+use Rattle.records.specs.Record.{fresh}
+use Rattle.records.specs.declared.Campaign.{Campaign}
+use Rattle.campaign.specs.Calls.{slotsOut, startOutcome, enterOutcome, withdrawOutcome, countsOutcome, responseOutcome}
+use Rattle.campaign.specs.declared.Started.{Started}
+use Rattle.campaign.specs.declared.Entered.{Entered}
+use Rattle.campaign.specs.declared.Withdrawn.{Withdrawn}
+use Rattle.campaign.specs.declared.Tally.{Tally}
+use Rattle.campaign.specs.declared.Counts.{Counts}
+use Rattle.campaign.specs.declared.Counts.the-variants as counts
+use Rattle.logbook.specs.declared.Phase.{Phase}
+use Rattle.logbook.specs.declared.Phase.the-variants as phase
+use Rattle.logbook.specs.declared.Item.{Item}
+use Rattle.logbook.specs.declared.Item.the-variants as item
+use Rattle.logbook.specs.declared.Line.{Line}
+use Rattle.logbook.specs.declared.Line.the-variants as line
+use Rattle.logbook.specs.declared.Book.{Book}
+use Rattle.logbook.specs.declared.Applied.{Applied}
+
+-- a call's result made into what is said of it, the store and the sums as the call left them
+abbrev pub over : {A : Type 0} → (A → Applied) → A × List ℤ × List ℤ → Applied × List ℤ × List ℤ
+over f o = (f (o .0), o .1, o .2)
+
+-- the phase, the record and the line, with no lines after it
+abbrev pub said : Phase → Campaign → Line → Applied
+said p c l = record { book = record { phase = p; campaign = c }; line = l; rows = 0 }
+
+abbrev pub unbegunBook : Book
+unbegunBook = record { phase = phase.Unbegun; campaign = fresh 0 0 0 }
+
+-- ---- start: 1, 2, 3, 4, 9, and 17 in the place of 6
+
+-- 17: the program only: order above 9 or slots above 8
+abbrev pub tooLarge : ℕ → ℕ → Bool
+tooLarge N C = ltb 9 N || ltb 8 C
+
+abbrev pub logStartChecks : ℕ → ℕ → ℕ → List (ℕ × Bool)
+logStartChecks N taps C = tapsChecks N taps ++ (9, slotsOut C) ∷ (17, tooLarge N C) ∷ []
+
+-- a refused start prints its line and stops
+abbrev pub startedBy : Started → Applied
+startedBy s = said (answered (s .answer) (λ _. phase.Stopped) phase.Between) (s .campaign) (line.Started (s .answer))
+
+unfoldable pub beganOutcome : Campaign → ℕ → ℕ → ℕ → List ℤ → List ℤ → Applied × List ℤ × List ℤ
+beganOutcome c N taps C store sums =
+    outcome (logStartChecks N taps C) (λ n. (startedBy (record { answer = n; campaign = c }), store, sums))
+    (over startedBy (startOutcome c N taps C store sums))
+
+-- ---- a day is opened, has its samples, and is entered
+
+-- P samples, for the orders that the program takes
+abbrev pub dayLength : ℕ → ℕ
+dayLength N = cond (leb N 9) (P N) 0
+
+-- a sample of an open day goes to the next place of the recording
+abbrev pub putSample : ℕ → ℕ → ℤ → List ℤ → Phase × List ℤ
+putSample d n v y = cond (ltb n (length y)) (phase.Open d (n + 1), set y n v) (phase.Open d n, y)
+
+abbrev pub tookSample : Phase → ℤ → List ℤ → Phase × List ℤ
+tookSample phase.Unbegun v y = (phase.Unbegun, y)
+tookSample phase.Between v y = (phase.Between, y)
+tookSample (phase.Open d n) v y = putSample d n v y
+tookSample phase.Stopped v y = (phase.Stopped, y)
+
+-- enter closes it
+abbrev pub enteredBy : Entered → Applied
+enteredBy e = said phase.Between (e .campaign) (line.Entered (e .entry))
+
+abbrev pub enteredOutcome : Campaign → ℕ → ℕ → List ℤ → List ℤ → List ℤ → Applied × List ℤ × List ℤ
+enteredOutcome c d n store sums y = over enteredBy (enterOutcome c store sums d (take n y))
+
+abbrev pub closedOutcome : Phase → Campaign → List ℤ → List ℤ → List ℤ → Applied × List ℤ × List ℤ
+closedOutcome phase.Unbegun c store sums y = (said phase.Unbegun c line.Silent, store, sums)
+closedOutcome phase.Between c store sums y = (said phase.Between c line.Silent, store, sums)
+closedOutcome (phase.Open d n) c store sums y = enteredOutcome c d n store sums y
+closedOutcome phase.Stopped c store sums y = (said phase.Stopped c line.Silent, store, sums)
+
+-- ---- a day is withdrawn
+
+abbrev pub withdrawnBy : Phase → ℕ → Withdrawn → Applied
+withdrawnBy p d w = said p (w .campaign) (line.Withdrawn d (w .answer))
+
+abbrev pub withdrewOutcome : Phase → Campaign → ℕ → List ℤ → List ℤ → Applied × List ℤ × List ℤ
+withdrewOutcome p c d store sums = over (withdrawnBy p d) (withdrawOutcome c store sums d)
+
+-- ---- the response is asked for, with the counts; P lines follow where it is not refused
+
+abbrev pub tallied : Counts → Tally
+tallied (counts.Counted t) = t
+tallied (counts.Refused n) = record { unseen = 0; standing = 0; overloaded = 0; dead = 0; withdrawn = 0 }
+
+abbrev pub askedBy : Book → Counts → ℕ → Applied
+askedBy b n answer =
+    record {
+      book = b;
+      line = line.Answered answer (tallied n);
+      rows = answered answer (λ _. 0) (dayLength (b .campaign .order));
+    }
+
+abbrev pub asks : Book → Counts → ℕ × List ℤ × List ℤ × List ℤ × List ℕ → Applied × List ℤ × List ℤ × List ℤ × List ℕ
+asks b n o = (askedBy b n (o .0), o .1, o .2, o .3, o .4)
+
+abbrev pub askedOutcome : Book → List ℤ → List ℤ → List ℤ → List ℤ → List ℤ → List ℕ → Applied × List ℤ × List ℤ × List ℤ × List ℕ
+askedOutcome b store sums r mean room tags =
+    asks b (countsOutcome (b .campaign) store sums) (responseOutcome (b .campaign) store sums r mean room tags)
+
+-- ---- any record
+
+-- what is lent: the store and the sums, the open day's recording, the response and the mean, the working room and the tags
+pub record Memory : Type 0 where
+  pub store : List ℤ
+  pub sums : List ℤ
+  pub recording : List ℤ
+  pub r : List ℤ
+  pub mean : List ℤ
+  pub room : List ℤ
+  pub tags : List ℕ
+
+abbrev pub memory : List ℤ → List ℤ → List ℤ → List ℤ → List ℤ → List ℤ → List ℕ → Memory
+memory store sums recording r mean room tags =
+    record { store = store; sums = sums; recording = recording; r = r; mean = mean; room = room; tags = tags }
+
+-- where the call leaves the store and the sums changed
+abbrev pub filing : Memory → Applied × List ℤ × List ℤ → Applied × Memory
+filing m o = (o .0, memory (o .1) (o .2) (m .recording) (m .r) (m .mean) (m .room) (m .tags))
+
+abbrev pub sampling : Memory → Campaign → Phase × List ℤ → Applied × Memory
+sampling m c o = (said (o .0) c line.Silent, memory (m .store) (m .sums) (o .1) (m .r) (m .mean) (m .room) (m .tags))
+
+abbrev pub asking : Memory → Applied × List ℤ × List ℤ × List ℤ × List ℕ → Applied × Memory
+asking m o = (o .0, memory (m .store) (m .sums) (m .recording) (o .1) (o .2) (o .3) (o .4))
+
+unfoldable pub applied : Book → Item → Memory → Applied × Memory
+applied b (item.Start N taps C) m = filing m (beganOutcome (b .campaign) N taps C (m .store) (m .sums))
+applied b (item.Open d) m = (said (phase.Open d 0) (b .campaign) line.Silent, m)
+applied b (item.Sample v) m = sampling m (b .campaign) (tookSample (b .phase) v (m .recording))
+applied b item.Enter m = filing m (closedOutcome (b .phase) (b .campaign) (m .store) (m .sums) (m .recording))
+applied b (item.Withdraw d) m = filing m (withdrewOutcome (b .phase) (b .campaign) d (m .store) (m .sums))
+applied b item.Ask m = asking m (askedOutcome b (m .store) (m .sums) (m .r) (m .mean) (m .room) (m .tags))

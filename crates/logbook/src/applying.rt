@@ -1,0 +1,265 @@
+// What a record does to the state and the memory lent, and the line that it makes.
+use crate::Applied;
+use crate::Book;
+use crate::Item;
+use crate::Line;
+use crate::Phase;
+use campaign::Counts;
+use campaign::Entered;
+use campaign::Started;
+use campaign::Tally;
+use campaign::Withdrawn;
+use campaign::answering::response;
+use campaign::counting::counts;
+use campaign::entering::enter;
+use campaign::starting::start;
+use campaign::withdrawing::withdraw;
+use records::Campaign;
+use records::filing::blank;
+use records::tables::outside;
+use register::shift::full_period;
+use register::taps::check_taps;
+ghost use mathlib.Core.Path.{_≡_};
+ghost use mathlib.Core.Bool.{_||_};
+ghost use lib.Dec.{ltb};
+ghost use Rattle.sums.specs.Refusals.{first};
+ghost use Rattle.records.specs.Record.{fresh};
+ghost use Rattle.logbook.specs.Book.{unbegunBook, tooLarge, logStartChecks, dayLength, said, startedBy, beganOutcome, putSample, tookSample, enteredBy, enteredOutcome, closedOutcome, withdrawnBy, withdrewOutcome, tallied, askedOutcome, memory, applied};
+
+// The state before the first record.
+pub fn unbegun() -> Book
+    ensures { λ r. ⌜ r ≡ unbegunBook ⌝ }
+{
+    Book {
+        phase: Phase::Unbegun,
+        campaign: blank(0, 0, 0),
+    }
+}
+
+// Whether the order is above 9 or the slots above 8.
+fn too_large(order: u32, slots: u32) -> bool
+    ensures { λ r. ⌜ r ≡ tooLarge order slots ⌝ }
+{
+    9 < order || 8 < slots
+}
+
+// The first of 1, 2, 3, 4, 9, 17 that refuses a start, and 0 where none does.
+fn start_refusal(order: u32, taps: u32, slots: u32) -> u32
+    ensures { λ n. ⌜ n ≡ first (logStartChecks order taps slots) ⌝ }
+{
+    let refusal = check_taps(order, taps);
+    if refusal != 0 {
+        return refusal;
+    }
+    if outside(slots, 64) {
+        return 9;
+    }
+    if too_large(order, slots) {
+        return 17;
+    }
+    0
+}
+
+// A day has P samples, for the orders that the program takes.
+pub fn day_length(order: u32) -> usize
+    ensures { λ r. ⌜ r ≡ dayLength order ⌝ }
+{
+    if 9 < order {
+        return 0;
+    }
+    full_period(order) as usize
+}
+
+// The phase, the record and the line, with no lines after it.
+fn say(phase: Phase, campaign: Campaign, line: Line) -> Applied
+    ensures { λ r. ⌜ r ≡ said phase campaign line ⌝ }
+{
+    Applied {
+        book: Book { phase, campaign },
+        line,
+        rows: 0,
+    }
+}
+
+fn started_by(s: Started) -> Applied
+    ensures { λ r. ⌜ r ≡ startedBy s ⌝ }
+{
+    let answer = s.answer;
+    let campaign = s.campaign;
+    if answer != 0 {
+        return say(Phase::Stopped, campaign, Line::Started(answer));
+    }
+    say(Phase::Between, campaign, Line::Started(answer))
+}
+
+// A start, refusing 1, 2, 3, 4, 9, 17.
+fn begin(
+    c: Campaign,
+    order: u32,
+    taps: u32,
+    slots: u32,
+    store: &mut [i32],
+    sums: &mut [i64],
+) -> Applied
+    ensures { λ x. ⌜ (x, now (store .exit), now (sums .exit)) ≡ beganOutcome c order taps slots (now (store .entry)) (now (sums .entry)) ⌝ }
+{
+    let refusal = start_refusal(order, taps, slots);
+    if refusal != 0 {
+        return started_by(Started {
+            answer: refusal,
+            campaign: c,
+        });
+    }
+    started_by(start(c, order, taps, slots, store, sums))
+}
+
+// The sample at the next place of the open day's recording.
+fn put_sample(day: u32, n: usize, v: i32, recording: &mut [i32]) -> Phase
+    ensures { λ x. ⌜ (x, now (recording .exit)) ≡ putSample day n v (now (recording .entry)) ⌝ }
+{
+    if recording.len() <= n {
+        return Phase::Open(day, n);
+    }
+    recording[n] = v;
+    Phase::Open(day, n + 1)
+}
+
+fn take_sample(phase: Phase, v: i32, recording: &mut [i32]) -> Phase
+    ensures { λ x. ⌜ (x, now (recording .exit)) ≡ tookSample phase v (now (recording .entry)) ⌝ }
+{
+    match phase {
+        Phase::Unbegun => Phase::Unbegun,
+        Phase::Between => Phase::Between,
+        Phase::Open(day, n) => put_sample(day, n, v, recording),
+        Phase::Stopped => Phase::Stopped,
+    }
+}
+
+fn entered_by(e: Entered) -> Applied
+    ensures { λ r. ⌜ r ≡ enteredBy e ⌝ }
+{
+    let entry = e.entry;
+    let campaign = e.campaign;
+    say(Phase::Between, campaign, Line::Entered(entry))
+}
+
+// The open day's recording is entered, and the day is closed.
+fn enter_day(
+    c: Campaign,
+    day: u32,
+    n: usize,
+    store: &mut [i32],
+    sums: &mut [i64],
+    recording: &[i32],
+) -> Applied
+    ensures { λ x. ⌜ (x, now (store .exit), now (sums .exit)) ≡ enteredOutcome c day n (now (store .entry)) (now (sums .entry)) (now (recording .entry)) ⌝ }
+{
+    if n < recording.len() {
+        return entered_by(enter(c, store, sums, day, &recording[..n]));
+    }
+    entered_by(enter(c, store, sums, day, recording))
+}
+
+fn close(
+    phase: Phase,
+    c: Campaign,
+    store: &mut [i32],
+    sums: &mut [i64],
+    recording: &[i32],
+) -> Applied
+    ensures { λ x. ⌜ (x, now (store .exit), now (sums .exit)) ≡ closedOutcome phase c (now (store .entry)) (now (sums .entry)) (now (recording .entry)) ⌝ }
+{
+    match phase {
+        Phase::Unbegun => say(Phase::Unbegun, c, Line::Silent),
+        Phase::Between => say(Phase::Between, c, Line::Silent),
+        Phase::Open(day, n) => enter_day(c, day, n, store, sums, recording),
+        Phase::Stopped => say(Phase::Stopped, c, Line::Silent),
+    }
+}
+
+fn withdrawn_by(phase: Phase, day: u32, w: Withdrawn) -> Applied
+    ensures { λ r. ⌜ r ≡ withdrawnBy phase day w ⌝ }
+{
+    let answer = w.answer;
+    let campaign = w.campaign;
+    say(phase, campaign, Line::Withdrawn(day, answer))
+}
+
+fn withdraw_day(phase: Phase, c: Campaign, day: u32, store: &mut [i32], sums: &mut [i64]) -> Applied
+    ensures { λ x. ⌜ (x, now (store .exit), now (sums .exit)) ≡ withdrewOutcome phase c day (now (store .entry)) (now (sums .entry)) ⌝ }
+{
+    withdrawn_by(phase, day, withdraw(c, store, sums, day))
+}
+
+fn tally_or_none(counted: Counts) -> Tally
+    ensures { λ r. ⌜ r ≡ tallied counted ⌝ }
+{
+    match counted {
+        Counts::Counted(tally) => tally,
+        Counts::Refused(_) => Tally {
+            unseen: 0,
+            standing: 0,
+            overloaded: 0,
+            dead: 0,
+            withdrawn: 0,
+        },
+    }
+}
+
+fn ask(
+    book: Book,
+    store: &[i32],
+    sums: &[i64],
+    r: &mut [i64],
+    mean: &mut [i32],
+    room: &mut [i64],
+    tags: &mut [u16],
+) -> Applied
+    ensures { λ x. ⌜ (x, now (r .exit), now (mean .exit), now (room .exit), now (tags .exit))
+        ≡ askedOutcome book (now (store .entry)) (now (sums .entry)) (now (r .entry)) (now (mean .entry)) (now (room .entry)) (now (tags .entry)) ⌝ }
+{
+    let c = book.campaign;
+    let answer = response(c, store, sums, r, mean, room, tags);
+    let tally = tally_or_none(counts(c, store, sums));
+    let line = Line::Answered(answer, tally);
+    if answer != 0 {
+        return Applied {
+            book,
+            line,
+            rows: 0,
+        };
+    }
+    let order = c.order;
+    Applied {
+        book,
+        line,
+        rows: day_length(order),
+    }
+}
+
+// A record's work, with the line that it makes.
+pub fn apply(
+    book: Book,
+    item: Item,
+    store: &mut [i32],
+    sums: &mut [i64],
+    recording: &mut [i32],
+    r: &mut [i64],
+    mean: &mut [i32],
+    room: &mut [i64],
+    tags: &mut [u16],
+) -> Applied
+    ensures { λ x. ⌜ (x, memory (now (store .exit)) (now (sums .exit)) (now (recording .exit)) (now (r .exit)) (now (mean .exit)) (now (room .exit)) (now (tags .exit)))
+        ≡ applied book item (memory (now (store .entry)) (now (sums .entry)) (now (recording .entry)) (now (r .entry)) (now (mean .entry)) (now (room .entry)) (now (tags .entry))) ⌝ }
+{
+    let phase = book.phase;
+    let c = book.campaign;
+    match item {
+        Item::Start(order, taps, slots) => begin(c, order, taps, slots, store, sums),
+        Item::Open(day) => say(Phase::Open(day, 0), c, Line::Silent),
+        Item::Sample(v) => say(take_sample(phase, v, recording), c, Line::Silent),
+        Item::Enter => close(phase, c, store, sums, recording),
+        Item::Withdraw(day) => withdraw_day(phase, c, day, store, sums),
+        Item::Ask => ask(book, store, sums, r, mean, room, tags),
+    }
+}
