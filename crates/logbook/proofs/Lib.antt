@@ -2,4 +2,5 @@
 mod Moving
 pub mod Sizes
 pub mod Standing
+pub mod Starts
 mod Writing

@@ -1,8 +1,8 @@
 -- How large what the log's functions answer can be: a record's bytes are at hand and at most five, and at most 511 lines follow. Assumes nothing.
-use mathlib.Core.Path.{_≡_, refl, ap}
+use mathlib.Core.Path.{_≡_, refl}
 use mathlib.Core.Bool.{Bool, true, false, cond}
 use mathlib.Core.List.{List}
-use Prim.Native.Nat.{ℕ, zero, suc, _+_, _-_, _^_, _≤_, _<_}
+use Prim.Native.Nat.{ℕ, zero, suc, _≤_}
 use native.Mathlib.Omega.{arith}
 use borrow.Author.Tests.{leb-true, leb-false}
 use lib.Dec.{eqb, leb}
@@ -13,7 +13,7 @@ use Rattle.sums.specs.Refusals.{answered, first}
 use Rattle.register.specs.Register.{P}
 use Rattle.records.specs.declared.Campaign.{Campaign}
 use Rattle.campaign.specs.Calls.{responseOutcome}
-use Rattle.logbook.specs.Log.{bodyLength, byteAt, itemAt, mayStand, mayEnd, ending, cut, decoded}
+use Rattle.logbook.specs.Log.{bodyLength, byteAt, mayStand, mayEnd, decoded}
 use Rattle.logbook.specs.Book.{dayLength, logStartChecks, beganOutcome, closedOutcome, Memory, applied}
 use Rattle.logbook.specs.declared.Phase.{Phase}
 use Rattle.logbook.specs.declared.Phase.the-variants as phase

@@ -2,17 +2,16 @@
 use mathlib.Core.Path.{_≡_, refl, sym, ap, ap₂, _∙_}
 use mathlib.Core.List.{List, [], _∷_, _++_}
 use mathlib.Core.Bool.{Bool, true, false, cond}
-use Prim.Native.Nat.{ℕ, zero, suc, _+_, _*_, _≤_, _<_}
+use Prim.Native.Nat.{ℕ, suc, _+_, _*_, _≤_, _<_}
 use mathlib.Core.Logic.{_⊎_, inl, inr, ⊎-elim}
 use native.Mathlib.Omega.{arith}
-use borrow.Author.Tests.{eq-eqb, ne-eqb, le-leb, lt-leb, le-ltb, eqb-true, leb-true, leb-false}
+use borrow.Author.Tests.{ne-eqb, le-leb, lt-leb, le-ltb, eqb-true, leb-true, leb-false}
 use lib.Dec.{eqb, leb}
 use lib.ListN.{length, length-append, List·getD-append}
 use Rattle.logbook.specs.Log.{bodyLength, byteAt, pairAt, signed, itemAt, mayStand, cut, decoded}
 use Rattle.logbook.specs.declared.Phase.{Phase}
 use Rattle.logbook.specs.declared.Phase.the-variants as phase
 use Rattle.logbook.specs.declared.Item.the-variants as item
-use Rattle.logbook.specs.declared.Found.{Found}
 use Rattle.logbook.specs.declared.Found.the-variants as found
 
 -- a number that is 0 or above 6 is none of 1 to 6

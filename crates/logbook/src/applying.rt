@@ -3,6 +3,8 @@ use crate::Applied;
 use crate::Book;
 use crate::Item;
 use crate::Line;
+use crate::MOST_ORDER;
+use crate::MOST_SLOTS;
 use crate::Phase;
 use campaign::Counts;
 use campaign::Entered;
@@ -20,10 +22,7 @@ use records::tables::outside;
 use register::shift::full_period;
 use register::taps::check_taps;
 ghost use mathlib.Core.Path.{_≡_};
-ghost use mathlib.Core.Bool.{_||_};
-ghost use lib.Dec.{ltb};
 ghost use Rattle.sums.specs.Refusals.{first};
-ghost use Rattle.records.specs.Record.{fresh};
 ghost use Rattle.logbook.specs.Book.{unbegunBook, tooLarge, logStartChecks, dayLength, said, startedBy, beganOutcome, putSample, tookSample, enteredBy, enteredOutcome, closedOutcome, withdrawnBy, withdrewOutcome, tallied, askedOutcome, memory, applied};
 
 // The state before the first record.
@@ -40,7 +39,7 @@ pub fn unbegun() -> Book
 fn too_large(order: u32, slots: u32) -> bool
     ensures { λ r. ⌜ r ≡ tooLarge order slots ⌝ }
 {
-    9 < order || 8 < slots
+    MOST_ORDER < order || MOST_SLOTS < slots
 }
 
 // The first of 1, 2, 3, 4, 9, 17 that refuses a start, and 0 where none does.
@@ -64,7 +63,7 @@ fn start_refusal(order: u32, taps: u32, slots: u32) -> u32
 pub fn day_length(order: u32) -> usize
     ensures { λ r. ⌜ r ≡ dayLength order ⌝ }
 {
-    if 9 < order {
+    if MOST_ORDER < order {
         return 0;
     }
     full_period(order) as usize

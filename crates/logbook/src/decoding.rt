@@ -7,7 +7,7 @@ ghost use Prim.Native.Nat.{_+_, _<_};
 ghost use mathlib.Core.Bool.{_&&_, _||_};
 ghost use lib.Dec.{eqb, ltb};
 ghost use lib.ListN.{length};
-ghost use Rattle.logbook.specs.Log.{bodyLength, byteAt, pairAt, sampleAt, itemAt, mayStand, mayEnd, ending, cut as cutOff, decoded};
+ghost use Rattle.logbook.specs.Log.{bodyLength, byteAt, pairAt, sampleAt, itemAt, mayStand, ending, cut as cutOff, decoded};
 
 // How many bytes follow a kind.
 fn body_length(kind: u8) -> usize

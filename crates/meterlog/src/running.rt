@@ -87,7 +87,7 @@ fn say(line: Line, rows: usize, r: &[i64], mean: &[i32], phase: Phase) -> bool
     goes_on(phase)
 }
 
-// A whole record is applied, and its lines are printed.
+// A whole record is applied, and its lines are printed; the next byte at hand is the one past it.
 fn take_record(
     p: Place,
     item: Item,
@@ -102,7 +102,7 @@ fn take_record(
 ) -> Place
     requires { ⌜ (p .from + size ≤ p .to) × (p .to < 2 ^ 64) × (size ≤ 5) × (p .offset < 2 ^ 63) ⌝ }
     requires { ⌜ (511 ≤ length (now r)) × (511 ≤ length (now mean)) ⌝ }
-    ensures { λ x. ⌜ (x .from ≤ x .to) × (x .to ≡ p .to) × (x .offset ≤ p .offset + 5) ⌝ }
+    ensures { λ x. ⌜ (x .from ≡ p .from + size) × (x .to ≡ p .to) × (x .offset ≡ p .offset + size) ⌝ }
 {
     let book = p.book;
     let done = apply(book, item, store, sums, recording, r, mean, room, tags);

@@ -1,5 +1,4 @@
 -- `logbook::applying::day_length` meets its contract: each return rewrites with the test that led there. Assumes nothing.
-use mathlib.Core.Path.{sym, _∙_}
 use borrow.Author.Needs.{needs}
 use borrow.Author.Tests.{le-leb, lt-leb}
 use Rattle.logbook.proofs.applying.day_length.Statement.{statement}

@@ -1,6 +1,5 @@
 -- `logbook::applying::started_by` meets its contract. Assumes nothing.
-use mathlib.Core.Path.{_≡_, sym, ap, _∙_}
-use Prim.Native.Nat.{ℕ}
+use mathlib.Core.Path.{sym, ap, _∙_}
 use borrow.Author.Needs.{needs}
 use Rattle.sums.specs.Refusals.{answered}
 use Rattle.sums.proofs.First.{answered-refused}

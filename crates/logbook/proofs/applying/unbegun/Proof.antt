@@ -1,8 +1,5 @@
 -- `logbook::applying::unbegun` meets its contract. Assumes nothing.
-use mathlib.Core.Path.{ap}
 use borrow.Author.Needs.{needs}
-use Rattle.logbook.specs.declared.Book.{Book}
-use Rattle.logbook.specs.declared.Phase.the-variants as phase
 use Rattle.logbook.proofs.applying.unbegun.Statement.{statement}
 use Rattle.logbook.proofs.applying.unbegun.Tie as tie
 

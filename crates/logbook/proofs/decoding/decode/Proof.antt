@@ -1,12 +1,11 @@
 -- `logbook::decoding::decode` meets its contract: each return rewrites with the tests that led there. Assumes nothing.
 use mathlib.Core.Path.{_≡_, sym, ap₂, _∙_}
 use mathlib.Core.Bool.{true}
-use Prim.Native.Nat.{_+_, _≤_, _<_}
-use lib.ListN.{length}
+use Prim.Native.Nat.{_+_}
 use Rattle.logbook.specs.declared.Found.the-variants as found
 use borrow.Author.Needs.{needs}
-use borrow.Author.Tests.{eq-eqb, ne-eqb, le-leb, lt-leb, not-true, not-false}
-use Rattle.logbook.specs.Log.{mayStand, byteAt, bodyLength, decoded}
+use borrow.Author.Tests.{eq-eqb, not-true, not-false}
+use Rattle.logbook.specs.Log.{mayStand, byteAt, decoded}
 use Rattle.logbook.proofs.Standing.{barred, short, whole}
 use Rattle.logbook.proofs.decoding.decode.Statement.{statement}
 use Rattle.logbook.proofs.decoding.decode.Tie as tie

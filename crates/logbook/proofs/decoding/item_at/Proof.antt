@@ -1,10 +1,8 @@
 -- `logbook::decoding::item_at` meets its contract: each return rewrites with the kind. Assumes nothing.
-use mathlib.Core.Path.{_≡_, ap, _∙_}
 use native.Mathlib.Omega.{arith}
 use borrow.Author.Tests.{ne-eqb}
 use mir.Syntax.{w32}
 use mir.ValLaws.{toZ-ofZ}
-use Rattle.logbook.specs.Log.{itemAt}
 use Rattle.logbook.proofs.decoding.item_at.Statement.{statement}
 use Rattle.logbook.proofs.decoding.item_at.Tie as tie
 

@@ -1,7 +1,5 @@
 -- `logbook::decoding::may_stand` meets its contract: each return rewrites with the phase. Assumes nothing.
-use mathlib.Core.Path.{sym, ap, _∙_}
 use borrow.Author.Needs.{needs}
-use Rattle.logbook.specs.Log.{mayStand}
 use Rattle.logbook.proofs.decoding.may_stand.Statement.{statement}
 use Rattle.logbook.proofs.decoding.may_stand.Tie as tie
 

@@ -1,8 +1,7 @@
 -- `logbook::feeding::to_front` meets its contract: the bytes moved so far, and the rest as it was. Assumes nothing.
-use mathlib.Core.Path.{_≡_, refl, sym, ap, _∙_}
-use Prim.Native.Nat.{_+_, _-_, _≤_}
+use mathlib.Core.Path.{_≡_, refl}
+use Prim.Native.Nat.{_-_, _≤_}
 use native.Mathlib.Omega.{arith}
-use borrow.Author.Needs.{needs}
 use lib.ListN.{length, length-set}
 use Rattle.logbook.proofs.Moving.{Moved, moved-none, moved-more}
 use Rattle.logbook.proofs.feeding.to_front.Statement.{statement}

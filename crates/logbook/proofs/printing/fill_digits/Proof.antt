@@ -2,7 +2,6 @@
 use mathlib.Core.Path.{_≡_, sym, _∙_}
 use Prim.Native.Nat.{_≤_}
 use native.Mathlib.Omega.{arith}
-use borrow.Author.Needs.{needs}
 use lib.ListN.{length}
 use lib.ListN.{length-set}
 use Rattle.logbook.proofs.Writing.{Digits, digits-none, digits-left, digits-more, digits-last}

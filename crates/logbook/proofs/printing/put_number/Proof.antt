@@ -1,6 +1,4 @@
 -- `logbook::printing::put_number` meets its contract. Assumes nothing.
-use mathlib.Core.Path.{_≡_, ap, _∙_}
-use native.Mathlib.Omega.{arith}
 use borrow.Author.Needs.{needs}
 use Rattle.logbook.proofs.Writing.{wrote-tail}
 use Rattle.logbook.proofs.printing.put_number.Statement.{statement}

@@ -1,5 +1,4 @@
 -- `logbook::printing::write_enter` meets its contract. Assumes nothing.
-use mathlib.Core.Path.{ap}
 use borrow.Author.Needs.{needs}
 use Rattle.logbook.proofs.Writing.{wrote-more}
 use Rattle.logbook.proofs.printing.write_enter.Statement.{statement}

@@ -1,5 +1,5 @@
 -- `meterlog::running::take_record` meets its contract: at most 511 lines follow, and nothing overflows. Assumes nothing.
-use mathlib.Core.Path.{_≡_, sym, ap}
+use mathlib.Core.Path.{refl, ap}
 use Prim.Native.Nat.{_≤_}
 use native.Mathlib.Omega.{arith}
 use borrow.Author.Needs.{needs}
@@ -52,7 +52,7 @@ same-length-7 : tie.Need-same-length-7
 same-length-7 c = search needs
 
 returns : tie.Need-returns
-returns c = let s = c .before .before .before .before .before .before .before .before .before .before .before .before .before .before .before .before .before .before .before .before .before .before .before .before in (s .pre .0 .0, omega arith, omega (arith, s .pre .0))
+returns c = (refl, refl, refl)
 
 pub take-record-spec : {M : Type 1} → statement M
 take-record-spec =

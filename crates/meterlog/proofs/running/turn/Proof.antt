@@ -1,9 +1,9 @@
 -- `meterlog::running::turn` meets its contract: a whole record lies within the bytes at hand. Assumes nothing.
-use mathlib.Core.Path.{_≡_, sym, _∙_}
+use mathlib.Core.Path.{sym, _∙_}
 use Prim.Native.Nat.{_-_, _≤_}
 use native.Mathlib.Omega.{arith}
 use borrow.Author.Needs.{needs}
-use lib.ListN.{length, take, drop, length-take, length-drop}
+use lib.ListN.{take, drop, length-take}
 use Rattle.logbook.proofs.Sizes.{whole-fits}
 use Rattle.meterlog.proofs.running.turn.Statement.{statement}
 use Rattle.meterlog.proofs.running.turn.Tie as tie
@@ -87,7 +87,8 @@ returns : tie.Need-returns
 returns c =
     let e = c .before .before .before .before .before .before .before .before .take-record .ensures in
     let s = c .before .before .before .before .before .before .before .before .before .before .before .before .before .before .before .before .before .before .before .before .before .before .before .before .before .before .before in
-    (e .0, omega (arith, e .1, s .pre .0), e .2)
+    let f = fits (c .before .before .before .before .before .before .before .before .before .before .before .before .before .before .before .before .before) in
+    (omega (arith, e .0, e .1, f .0, s .pre .0), omega (arith, e .1, s .pre .0), omega (arith, e .2, f .1))
 
 same-length-9 : tie.Need-same-length-9
 same-length-9 c = search needs
