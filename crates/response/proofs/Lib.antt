@@ -6,6 +6,7 @@ pub mod Laying
 pub mod Kernel
 pub mod Nearest
 mod Signs
+mod Reciprocal
 pub mod Samples
 pub mod FastRoute
 pub mod Transformed

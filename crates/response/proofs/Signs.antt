@@ -9,7 +9,9 @@ use lib.Signed.{ltZ}
 use mir.Syntax.{w64}
 use mir.Val.{SFits, toZ}
 use mir.ValLaws.{toZ-ofZ}
+use Rattle.sums.proofs.Bound.{natAbs-neg}
 use Rattle.response.specs.Rounding.{nearest, rounded}
+use Rattle.response.specs.Halving.{withSign}
 
 -- a number of 64 bits below 2 ^ 63, read as a signed one
 pub as-signed : (n : ℕ) → n < 2 ^ 63 → toZ w64 n ≡ pos n
@@ -31,3 +33,21 @@ mean-negative (negsuc n) d e = refl
 pub mean-positive : (z : ℤ) (d : ℕ) → ltZ z (pos 0) ≡ false → pos (nearest (natAbs z) d) ≡ rounded z d
 mean-positive (pos n) d e = refl
 mean-positive (negsuc n) d e = absurd (true≢false e)
+
+-- ---- a size with a sign put to it
+
+pub sign-negative : (z : ℤ) (n : ℕ) → ltZ z (pos 0) ≡ true → negℤ (pos n) ≡ withSign z n
+sign-negative (pos a) n e = absurd (omega (arith, ltb-true a 0 e))
+sign-negative (negsuc a) n e = refl
+
+pub sign-positive : (z : ℤ) (n : ℕ) → ltZ z (pos 0) ≡ false → pos n ≡ withSign z n
+sign-positive (pos a) n e = refl
+sign-positive (negsuc a) n e = absurd (true≢false e)
+
+pub rounded-signed : (z : ℤ) (d : ℕ) → withSign z (nearest (natAbs z) d) ≡ rounded z d
+rounded-signed (pos a) d = refl
+rounded-signed (negsuc a) d = refl
+
+pub rounded-size : (z : ℤ) (d : ℕ) → natAbs (rounded z d) ≡ nearest (natAbs z) d
+rounded-size (pos a) d = refl
+rounded-size (negsuc a) d = natAbs-neg (pos (nearest (suc a) d))

@@ -2,4 +2,5 @@
 pub mod Response
 pub mod Calls
 pub mod Rounding
+pub mod Halving
 pub mod Route

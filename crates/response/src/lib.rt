@@ -17,3 +17,9 @@ pub use recording::one_recording;
 pub const LOWEST_SAMPLE: i64 = -8388608;
 
 pub const HIGHEST_SAMPLE: i64 = 8388607;
+
+// A number as 2^times times the rest.
+pub struct Halved {
+    pub times: u32,
+    pub rest: u64,
+}

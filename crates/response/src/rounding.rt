@@ -1,12 +1,14 @@
 // A quotient rounded to nearest, halves away from zero: the magnitudes are divided, and the sign is put back.
+use crate::Halved;
 ghost use mathlib.Core.Path.{_≡_};
 ghost use mathlib.Core.Bool.{false};
-ghost use Prim.Native.Nat.{ℕ, _≤_, _<_, _^_};
+ghost use Prim.Native.Nat.{ℕ, _*_, _≤_, _<_, _^_};
 ghost use lib.IntN.{natAbs};
 ghost use lib.ListN.{length};
 ghost use Rattle.sums.specs.Lists.{at, table, put};
 ghost use Rattle.response.specs.Calls.{sampleOut};
 ghost use Rattle.response.specs.Rounding.{nearest, rounded};
+ghost use Rattle.response.specs.Halving.{Split, withSign};
 
 // a / d to the nearest, a half going up.
 fn near(a: u64, d: u64) -> u64
@@ -32,8 +34,8 @@ pub fn mean(r: i64, d: u64) -> i64
     }
 }
 
-// The mean of each of the first `period`, at its place.
-pub fn write_means(r: &[i64], out: &mut [i32], period: usize, divisor: u64)
+// The mean of each of the first `period`, at its place, by division.
+fn write_divided(r: &[i64], out: &mut [i32], period: usize, divisor: u64)
     requires { ⌜ (period ≤ length (now r)) × (period ≤ length (now out)) × (0 < divisor) ⌝ }
     requires { ⌜ ((k : ℕ) → k < period → (natAbs (at (now r) k) < 2 ^ 63) × (sampleOut (rounded (at (now r) k) divisor) ≡ false)) ⌝ }
     ensures { λ _. ⌜ now (out .exit) ≡ put (table period (λ k. rounded (at (now (r .entry)) k) divisor)) (now (out .entry)) ⌝ }
@@ -43,4 +45,88 @@ pub fn write_means(r: &[i64], out: &mut [i32], period: usize, divisor: u64)
         out[k] = mean(r[k], divisor) as i32;
         k += 1;
     }
+}
+
+// How often 2 goes into a number, 16 times at most, and what is left of it.
+fn halve(d: u64) -> Halved
+    ensures { λ h. ⌜ (h .rest * 2 ^ h .times ≡ d) × (h .times ≤ 16) ⌝ }
+{
+    let mut rest = d;
+    let mut times = 0u32;
+    while times < 16 {
+        if rest % 2 == 1 {
+            return Halved { times, rest };
+        }
+        rest = rest / 2;
+        times += 1;
+    }
+    Halved { times, rest }
+}
+
+// a / d to the nearest, by a shift and a product.
+fn near_by(a: u64, d: u64, shift: u32, m: u64) -> u64
+    requires { ⌜ (Split d shift m) × (nearest a d ≤ 2 ^ 23) ⌝ }
+    ensures { λ q. ⌜ q ≡ nearest a d ⌝ }
+{
+    let x = (2 * a + d) >> shift;
+    (x * m) >> 36
+}
+
+// The size of a number.
+fn size(z: i64) -> u64
+    requires { ⌜ natAbs z < 2 ^ 63 ⌝ }
+    ensures { λ n. ⌜ n ≡ natAbs z ⌝ }
+{
+    if z < 0 {
+        let a = -z;
+        a as u64
+    } else {
+        z as u64
+    }
+}
+
+// n with the sign of z.
+fn with_sign(z: i64, n: u64) -> i64
+    requires { ⌜ n < 2 ^ 63 ⌝ }
+    ensures { λ x. ⌜ x ≡ withSign z n ⌝ }
+{
+    let b = n as i64;
+    if z < 0 { -b } else { b }
+}
+
+// r / d to the nearest, where that is a sample, by a shift and a product.
+fn mean_by(r: i64, d: u64, shift: u32, m: u64) -> i64
+    requires { ⌜ (Split d shift m) × (natAbs r < 2 ^ 63) × (sampleOut (rounded r d) ≡ false) ⌝ }
+    ensures { λ x. ⌜ x ≡ rounded r d ⌝ }
+{
+    with_sign(r, near_by(size(r), d, shift, m))
+}
+
+// The same by a shift and a product.
+fn write_shifted(r: &[i64], out: &mut [i32], period: usize, divisor: u64, shift: u32, m: u64)
+    requires { ⌜ (period ≤ length (now r)) × (period ≤ length (now out)) × (Split divisor shift m) ⌝ }
+    requires { ⌜ ((k : ℕ) → k < period → (natAbs (at (now r) k) < 2 ^ 63) × (sampleOut (rounded (at (now r) k) divisor) ≡ false)) ⌝ }
+    ensures { λ _. ⌜ now (out .exit) ≡ put (table period (λ k. rounded (at (now (r .entry)) k) divisor)) (now (out .entry)) ⌝ }
+{
+    let mut k = 0;
+    while k < period {
+        out[k] = mean_by(r[k], divisor, shift, m) as i32;
+        k += 1;
+    }
+}
+
+// The mean of each of the first `period`, at its place. A divisor that is few times a power of two, as (P+1)·n is, needs no division.
+pub fn write_means(r: &[i64], out: &mut [i32], period: usize, divisor: u64)
+    requires { ⌜ (period ≤ length (now r)) × (period ≤ length (now out)) × (0 < divisor) ⌝ }
+    requires { ⌜ ((k : ℕ) → k < period → (natAbs (at (now r) k) < 2 ^ 63) × (sampleOut (rounded (at (now r) k) divisor) ≡ false)) ⌝ }
+    ensures { λ _. ⌜ now (out .exit) ≡ put (table period (λ k. rounded (at (now (r .entry)) k) divisor)) (now (out .entry)) ⌝ }
+{
+    let h = halve(divisor);
+    let times = h.times;
+    let rest = h.rest;
+    if rest <= 64 {
+        write_shifted(r, out, period, divisor, times + 1, 68719476736 / rest + 1);
+        return;
+    }
+    write_divided(r, out, period, divisor);
 }

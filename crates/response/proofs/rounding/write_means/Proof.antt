@@ -1,93 +1,61 @@
--- `response::rounding::write_means` meets its contract: after k turns the first k means are written. Assumes nothing.
-use mathlib.Core.Path.{_≡_, _∙_}
-use Prim.Native.Nat.{_-_, _≤_}
+-- `response::rounding::write_means` meets its contract, by either way. Assumes nothing.
+use borrow.Author.Needs.{needs}
+use Prim.Native.Nat.{_<_}
+use native.Mathlib.Nat.{div-le-self}
 use native.Mathlib.Omega.{arith}
-use mir.Syntax.{w32, w64}
-use mir.Val.{SFits}
-use mir.Facts.{toZ-ofZ}
-use Rattle.sums.specs.Lists.{at}
-use Rattle.sums.proofs.Bound.{read}
-use Rattle.sums.proofs.Tables.{Written, written-none, written-more, written-length}
-use Rattle.response.specs.Rounding.{rounded}
-use Rattle.response.proofs.Samples.{sample-fits}
+use Rattle.response.proofs.Reciprocal.{rest-some, split}
 use Rattle.response.proofs.rounding.write_means.Statement.{statement}
 use Rattle.response.proofs.rounding.write_means.Tie as tie
 
-abbrev Inv-loop : tie.InvT-loop
-Inv-loop r out₀ period divisor k₀ out k = (k ≤ period) × Written k (λ i. rounded (at r i) divisor) out₀ out
+halve-requires : tie.Need-halve-requires
+halve-requires c κs = search needs
 
-abbrev μ-loop : tie.MeasureT-loop
-μ-loop r out₀ period divisor k₀ out k = period - k
+some : (c : tie.After-halve) → 0 < c .halve .result .rest
+some c = rest-some (c .before .args .divisor) (c .halve .result .rest) (c .halve .result .times) (c .halve .ensures .0) (c .before .pre .0 .2)
 
-loop-holds : tie.Need-loop-holds Inv-loop μ-loop
-loop-holds c = (omega arith, written-none)
+add-write-shifted : tie.Need-add-write-shifted
+add-write-shifted c = search needs
 
-mul-mean : tie.Need-mul-mean Inv-loop μ-loop
-mul-mean c = omega arith
+div-write-shifted : tie.Need-div-write-shifted
+div-write-shifted c = some (c .before .before)
 
-shared-slice-copy-out-mean : tie.Need-shared-slice-copy-out-mean Inv-loop μ-loop
-shared-slice-copy-out-mean c = omega arith
+add-write-shifted-2 : tie.Need-add-write-shifted-2
+add-write-shifted-2 c = record { fits = omega (arith, div-le-self 68719476736 (c .before .before .halve .result .rest)) }
 
-mean-requires : tie.Need-mean-requires Inv-loop μ-loop
-mean-requires c κs =
-    let b = c .before .before .before in
-    let k = c .before .before .loop .k in
-    (b .pre .0 .2, rw (read w64 (at (b .args .r .now) k) (c .mean-arg .given)) (b .pre .1 k (omega arith) .0))
+write-shifted-requires : tie.Need-write-shifted-requires
+write-shifted-requires c κs =
+    let h = c .before .before in
+    let p = h .before .pre in (
+      (p .0 .0, p .0 .1, split (h .before .args .divisor) (h .halve .result .rest) (h .halve .result .times) (h .halve .ensures .0) (p .0 .2) (c .before .if1 .taken) (h .halve .ensures .1)),
+      p .1,
+    )
 
--- the mean is that of the number read, and a sample
-said : (c : tie.After-mean Inv-loop μ-loop) → let l = c .before .before .before in
-    c .mean .result ≡ rounded (at (l .before .args .r .now) (l .loop .k)) (l .before .args .divisor)
-said c =
-    let l = c .before .before .before in
-    rw (read w64 (at (l .before .args .r .now) (l .loop .k)) (c .before .mean-arg .given)) at (c .mean .ensures)
+same-length : tie.Need-same-length
+same-length c = search needs
 
-fits : (c : tie.After-mean Inv-loop μ-loop) → SFits w32 (c .mean .result)
-fits c =
-    let l = c .before .before .before in
-    rw (said c) (sample-fits (rounded (at (l .before .args .r .now) (l .loop .k)) (l .before .args .divisor)) (l .before .pre .1 (l .loop .k) (omega arith) .1))
+returns : tie.Need-returns
+returns c = search needs
 
-cast-out : tie.Need-cast-out Inv-loop μ-loop
-cast-out c = rw (read w64 (c .mean .result) (c .mean .ok)) (fits c)
+write-divided-requires : tie.Need-write-divided-requires
+write-divided-requires c κs = search needs
 
-mul-t12 : tie.Need-mul-t12 Inv-loop μ-loop
-mul-t12 c = omega arith
+same-length-2 : tie.Need-same-length-2
+same-length-2 c = search needs
 
-slice-set-from-out : tie.Need-slice-set-from-out Inv-loop μ-loop
-slice-set-from-out c = omega (arith, written-length (c .before .before .before .loop .inv .1) (omega arith))
-
-add-k : tie.Need-add-k Inv-loop μ-loop
-add-k c = omega arith
-
-loop-less : tie.Need-loop-less Inv-loop μ-loop
-loop-less c = omega arith
-
-loop-again : tie.Need-loop-again Inv-loop μ-loop
-loop-again c = (
-  omega arith,
-  written-more (c .before .before .before .loop .inv .1) (omega arith) (rw (read w64 (c .mean .result) (c .mean .ok)) (toZ-ofZ (fits c) ∙ said c)),
-)
-
-same-length : tie.Need-same-length Inv-loop μ-loop
-same-length c = written-length (c .before .loop .inv .1) (omega arith)
-
-returns : tie.Need-returns Inv-loop μ-loop
-returns c = let e : c .before .loop .k ≡ c .before .before .args .period = omega arith in rw e at (c .before .loop .inv .1 .is)
+returns-2 : tie.Need-returns-2
+returns-2 c = search needs
 
 pub write-means-spec : {M : Type 1} → statement M
 write-means-spec =
     tie.close
     (tie.spec
-    Inv-loop
-    μ-loop
-    loop-holds
-    mul-mean
-    shared-slice-copy-out-mean
-    mean-requires
-    cast-out
-    mul-t12
-    slice-set-from-out
-    add-k
-    loop-less
-    loop-again
+    halve-requires
+    add-write-shifted
+    div-write-shifted
+    add-write-shifted-2
+    write-shifted-requires
     same-length
-    returns)
+    returns
+    write-divided-requires
+    same-length-2
+    returns-2)

@@ -1,0 +1,94 @@
+-- A quotient by a number as the product with its reciprocal, rounded up at a large power of two: exact while the product stays short of it.
+-- Assumes nothing.
+use mathlib.Core.Path.{_≡_, refl, sym, ap, _∙_}
+use Prim.Native.Nat.{ℕ, zero, suc, _+_, _*_, _/_, _^_, _≤_, _<_}
+use native.Mathlib.Nat.{mul-comm, mul-assoc, mul-add, add-mul, mul-one, one-mul, mul-right-comm, le-of-lt, mul-le-mul, mul-le-mul-left, mul-le-mul-right, le-of-mul-le-mul-right, lt-of-mul-lt-mul-right, div-mul-le-self, mul-div-le, lt-mul-div-succ, div-eq-of-lt-le, div-div-eq-div-mul, zero-mul, pow-succ'}
+use native.Mathlib.Numerals.{add-one}
+use native.Mathlib.Omega.{arith}
+use lib.Pow.{pow-pos, pow-mono}
+use Rattle.response.specs.Rounding.{nearest}
+use Rattle.response.specs.Halving.{Split}
+
+module _ (K x n : ℕ) (p : 0 < n) (short : x * n < K) where
+  -- the reciprocal, and what it comes to
+  abbrev m : ℕ
+  m = K / n + 1
+
+  product : x * (n * m) ≡ x * m * n
+  product = ap (λ z. x * z) (mul-comm n m) ∙ sym (mul-assoc x m n)
+
+  at-least : x / n * K ≤ x * m
+  at-least =
+      let a = mul-right-comm (x / n) K n in
+      let b = mul-le-mul-right K (div-mul-le-self x n) in
+      let c = mul-le-mul-left x (le-of-lt (lt-mul-div-succ K p)) in
+      le-of-mul-le-mul-right {k = n} (omega (arith, a, b, c, product)) p
+
+  pub below : x * m < (x / n + 1) * K
+  below =
+      let a = mul-add n (K / n) 1 in
+      let b : n * m ≤ K + n = omega (arith, a, mul-one n, mul-div-le K n) in
+      let c = mul-le-mul-left x b in
+      let d = mul-add x K n in
+      let e : x + 1 ≤ n * (x / n + 1) = omega (arith, lt-mul-div-succ x p) in
+      let f = mul-le-mul-right K e in
+      let g = add-mul x 1 K in
+      let h = ap (λ z. z * K) (mul-comm n (x / n + 1)) ∙ mul-right-comm (x / n + 1) n K in
+      lt-of-mul-lt-mul-right n (omega (arith, product, c, d, f, g, h, one-mul K))
+
+  pub reciprocal : x * m / K ≡ x / n
+  reciprocal = div-eq-of-lt-le K at-least below
+
+-- ---- the nearest quotient by a split divisor
+
+module _ (a d shift m : ℕ) (s : Split d shift m) (h : nearest a d ≤ 2 ^ 23) where
+  abbrev shifted : ℕ
+  shifted = (2 * a + d) / 2 ^ shift
+
+  quotient : shifted / s .few ≡ nearest a d
+  unfolding nearest
+  quotient = div-div-eq-div-mul (2 * a + d) (2 ^ shift) (s .few) ∙ ap (λ z. (2 * a + d) / z) (s .whole)
+
+  shifted-small : shifted < 64 * (2 ^ 23 + 1)
+  shifted-small =
+      let b : shifted / s .few + 1 ≤ 2 ^ 23 + 1 = omega (arith, quotient) in
+      omega (arith, lt-mul-div-succ shifted (s .some), mul-le-mul (s .most) b)
+
+  short : shifted * s .few < 2 ^ 36
+  short = omega (arith, mul-le-mul (le-of-lt shifted-small) (s .most))
+
+  -- nothing overflows on the way
+  pub sum-fits : 2 * a + d < 2 ^ 48
+  sum-fits =
+      let b : shifted + 1 ≤ 64 * (2 ^ 23 + 1) = omega (arith, shifted-small) in
+      let e : 2 ^ shift ≤ 2 ^ 17 = pow-mono {i = shift} {j = 17} (s .low) in
+      omega (arith, lt-mul-div-succ (2 * a + d) {b = 2 ^ shift} (pow-pos shift), mul-le-mul e b)
+
+  pub product-fits : shifted * m < 2 ^ 64
+  product-fits =
+      let b : shifted / s .few + 1 ≤ 2 ^ 23 + 1 = omega (arith, quotient) in
+      rw (s .times) (omega (arith, below (2 ^ 36) shifted (s .few) (s .some) short, mul-le-mul-right (2 ^ 36) b))
+
+  pub near-by : shifted * m / 2 ^ 36 ≡ nearest a d
+  near-by = rw (s .times) (reciprocal (2 ^ 36) shifted (s .few) (s .some) short ∙ quotient)
+
+-- ---- a divisor split by how often 2 goes into it
+
+module _ (d rest times : ℕ) (e : rest * 2 ^ times ≡ d) (p : 0 < d) where
+  pub rest-some : 0 < rest
+  rest-some = positive rest e
+    where
+      positive : (n : ℕ) → n * 2 ^ times ≡ d → 0 < n
+      positive zero q = absurd (omega (arith, zero-mul (2 ^ times)))
+      positive (suc n) q = omega arith
+
+  pub split : rest ≤ 64 → times ≤ 16 → Split d (times + 1) (2 ^ 36 / rest + 1)
+  split most low =
+      record {
+        few = rest;
+        some = rest-some;
+        most = most;
+        low = omega arith;
+        whole = ap (λ k. 2 ^ k * rest) (add-one times) ∙ ap (λ z. z * rest) (pow-succ' 2 times) ∙ mul-assoc 2 (2 ^ times) rest ∙ ap (λ z. 2 * z) (mul-comm (2 ^ times) rest ∙ e);
+        times = refl;
+      }

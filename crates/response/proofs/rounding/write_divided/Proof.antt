@@ -1,0 +1,93 @@
+-- `response::rounding::write_divided` meets its contract: after k turns the first k means are written. Assumes nothing.
+use mathlib.Core.Path.{_≡_, _∙_}
+use Prim.Native.Nat.{_-_, _≤_}
+use native.Mathlib.Omega.{arith}
+use mir.Syntax.{w32, w64}
+use mir.Val.{SFits}
+use mir.Facts.{toZ-ofZ}
+use Rattle.sums.specs.Lists.{at}
+use Rattle.sums.proofs.Bound.{read}
+use Rattle.sums.proofs.Tables.{Written, written-none, written-more, written-length}
+use Rattle.response.specs.Rounding.{rounded}
+use Rattle.response.proofs.Samples.{sample-fits}
+use Rattle.response.proofs.rounding.write_divided.Statement.{statement}
+use Rattle.response.proofs.rounding.write_divided.Tie as tie
+
+abbrev Inv-loop : tie.InvT-loop
+Inv-loop r out₀ period divisor k₀ out k = (k ≤ period) × Written k (λ i. rounded (at r i) divisor) out₀ out
+
+abbrev μ-loop : tie.MeasureT-loop
+μ-loop r out₀ period divisor k₀ out k = period - k
+
+loop-holds : tie.Need-loop-holds Inv-loop μ-loop
+loop-holds c = (omega arith, written-none)
+
+mul-mean : tie.Need-mul-mean Inv-loop μ-loop
+mul-mean c = omega arith
+
+shared-slice-copy-out-mean : tie.Need-shared-slice-copy-out-mean Inv-loop μ-loop
+shared-slice-copy-out-mean c = omega arith
+
+mean-requires : tie.Need-mean-requires Inv-loop μ-loop
+mean-requires c κs =
+    let b = c .before .before .before in
+    let k = c .before .before .loop .k in
+    (b .pre .0 .2, rw (read w64 (at (b .args .r .now) k) (c .mean-arg .given)) (b .pre .1 k (omega arith) .0))
+
+-- the mean is that of the number read, and a sample
+said : (c : tie.After-mean Inv-loop μ-loop) → let l = c .before .before .before in
+    c .mean .result ≡ rounded (at (l .before .args .r .now) (l .loop .k)) (l .before .args .divisor)
+said c =
+    let l = c .before .before .before in
+    rw (read w64 (at (l .before .args .r .now) (l .loop .k)) (c .before .mean-arg .given)) at (c .mean .ensures)
+
+fits : (c : tie.After-mean Inv-loop μ-loop) → SFits w32 (c .mean .result)
+fits c =
+    let l = c .before .before .before in
+    rw (said c) (sample-fits (rounded (at (l .before .args .r .now) (l .loop .k)) (l .before .args .divisor)) (l .before .pre .1 (l .loop .k) (omega arith) .1))
+
+cast-out : tie.Need-cast-out Inv-loop μ-loop
+cast-out c = rw (read w64 (c .mean .result) (c .mean .ok)) (fits c)
+
+mul-t12 : tie.Need-mul-t12 Inv-loop μ-loop
+mul-t12 c = omega arith
+
+slice-set-from-out : tie.Need-slice-set-from-out Inv-loop μ-loop
+slice-set-from-out c = omega (arith, written-length (c .before .before .before .loop .inv .1) (omega arith))
+
+add-k : tie.Need-add-k Inv-loop μ-loop
+add-k c = omega arith
+
+loop-less : tie.Need-loop-less Inv-loop μ-loop
+loop-less c = omega arith
+
+loop-again : tie.Need-loop-again Inv-loop μ-loop
+loop-again c = (
+  omega arith,
+  written-more (c .before .before .before .loop .inv .1) (omega arith) (rw (read w64 (c .mean .result) (c .mean .ok)) (toZ-ofZ (fits c) ∙ said c)),
+)
+
+same-length : tie.Need-same-length Inv-loop μ-loop
+same-length c = written-length (c .before .loop .inv .1) (omega arith)
+
+returns : tie.Need-returns Inv-loop μ-loop
+returns c = let e : c .before .loop .k ≡ c .before .before .args .period = omega arith in rw e at (c .before .loop .inv .1 .is)
+
+pub write-divided-spec : {M : Type 1} → statement M
+write-divided-spec =
+    tie.close
+    (tie.spec
+    Inv-loop
+    μ-loop
+    loop-holds
+    mul-mean
+    shared-slice-copy-out-mean
+    mean-requires
+    cast-out
+    mul-t12
+    slice-set-from-out
+    add-k
+    loop-less
+    loop-again
+    same-length
+    returns)

@@ -1,0 +1,17 @@
+-- A divisor that is few times a power of two: a quotient by it is a shift, and a product by the reciprocal of the few. Assumes nothing.
+use mathlib.Core.Path.{_≡_}
+use Prim.Native.Nat.{ℕ, _+_, _*_, _/_, _^_, _≤_, _<_}
+use lib.IntN.{ℤ, pos, negsuc, negℤ}
+
+pub record Split (d shift m : ℕ) : Type 0 where
+  pub few : ℕ
+  pub some : 0 < few
+  pub most : few ≤ 64
+  pub low : shift ≤ 17
+  pub whole : 2 ^ shift * few ≡ 2 * d
+  pub times : m ≡ 2 ^ 36 / few + 1
+
+-- n with the sign of z
+abbrev pub withSign : ℤ → ℕ → ℤ
+withSign (pos a) n = pos n
+withSign (negsuc a) n = negℤ (pos n)
