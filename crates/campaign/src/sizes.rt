@@ -5,6 +5,7 @@ use register::shift::tag_step;
 use response::clear::clear_tags;
 use response::clear::clear_wide;
 use response::respond::transform_room;
+use response::rounding::size;
 use response::spread::spread_wide;
 ghost use mathlib.Core.Path.{_≡_};
 ghost use mathlib.Core.Bool.{cond};
@@ -29,19 +30,6 @@ pub fn level_of(z: i64, d: u64) -> f64
     a / b
 }
 
-// The size of a number.
-fn size(z: i64) -> u64
-    requires { ⌜ natAbs z < 2 ^ 63 ⌝ }
-    ensures { λ n. ⌜ n ≡ natAbs z ⌝ }
-{
-    if z < 0 {
-        let a = -z;
-        a as u64
-    } else {
-        z as u64
-    }
-}
-
 // The new number where it is at least the old.
 fn higher(old: i64, new: i64) -> i64
     ensures { λ x. ⌜ x ≡ cond (leZ old new) new old ⌝ }
@@ -58,7 +46,6 @@ fn lower(old: i64, new: i64) -> i64
 
 // Where its size is at least the old's.
 fn larger(old: i64, new: i64) -> i64
-    requires { ⌜ (natAbs old < 2 ^ 63) × (natAbs new < 2 ^ 63) ⌝ }
     ensures { λ x. ⌜ x ≡ cond (leb (natAbs old) (natAbs new)) new old ⌝ }
 {
     if size(old) <= size(new) { new } else { old }

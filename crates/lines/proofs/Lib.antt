@@ -1,3 +1,2 @@
 -- The laws of the digest.
-pub mod Below
 pub mod Folding

@@ -1,17 +1,13 @@
 -- Text written to a buffer: a byte, a word byte by byte, a number's digits from the last, and one text after another. Assumes nothing.
 use mathlib.Core.Path.{_≡_, refl, sym, ap, ap₂, _∙_}
-use mathlib.Core.Bool.{true}
 use mathlib.Core.List.{List, [], _∷_, _++_, append-assoc, append-nil}
 use Prim.Native.Nat.{ℕ, zero, suc, _+_, _-_, _/_, _%_, _^_, _≤_, _<_}
 use native.Mathlib.Nat.{div-lt-iff-lt-mul, pow-suc}
 use native.Mathlib.Numerals.{add-one, sub-one}
 use native.Mathlib.Omega.{arith}
-use borrow.Author.Tests.{lt-ltb, le-ltb, ltb-true}
-use lib.IntN.{ℤ, pos, negsuc, natAbs, _-ℤ_}
+use borrow.Author.Tests.{lt-ltb, le-ltb}
 use lib.ListN.{length, take, drop, getD, set, length-append, length-take, length-drop, length-set}
 use lib.Seq.{take-suc, take-suc-set, take-all, take-length, drop-cons, drop-length, drop-set-lt, getD-set-same}
-use lib.Signed.{ltZ, mag}
-use Rattle.sums.proofs.Diff.{diff, negsuc-diff, diffs, ints}
 use Rattle.logbook.specs.Lines.{digits, decimal, Wrote}
 
 -- ---- one text after another
@@ -103,12 +99,3 @@ digits-more (suc j) {n} {rest} {room} d h r =
 pub digits-last : {n i rest : ℕ} {room : List ℕ} → Digits n i rest room → rest < 10 → i < length room → drop i (set room i (48 + rest)) ≡ decimal n
 digits-last {n} {i} {rest} {room} d h r =
     set-past room i (48 + rest) r ∙ ap (λ l. l ++ drop (suc i) room) (sym (one-digit i rest h)) ∙ sym (d .is)
-
--- ---- a negative number's size, by its distance below -1
-
-distance : (z : ℤ) (n : ℕ) → z ≡ diff 0 (suc n) → negsuc 0 -ℤ z ≡ pos n
-distance z n e = rw e (simp diffs (omega ints))
-
-pub below : (z : ℤ) → ltZ z (pos 0) ≡ true → (negsuc 0 -ℤ z ≡ pos (mag z)) × (natAbs z ≡ mag z + 1)
-below (pos n) e = absurd (omega (arith, ltb-true n 0 e))
-below (negsuc n) e = (distance (negsuc n) n (negsuc-diff n), sym (add-one n))

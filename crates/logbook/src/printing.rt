@@ -4,10 +4,10 @@ use crate::Text;
 use campaign::Entry;
 use campaign::Tally;
 use campaign::Verdict;
+use response::rounding::size;
 ghost use mathlib.Core.Path.{_≡_};
 ghost use mathlib.Core.List.{List, [], _∷_, _++_};
 ghost use Prim.Native.Nat.{_+_, _≤_, _<_};
-ghost use lib.IntN.{natAbs};
 ghost use lib.ListN.{length, take, drop};
 ghost use Rattle.campaign.specs.Calls.{verdictNumber};
 ghost use Rattle.logbook.specs.Lines.{decimal, decimalZ, spaced, verdictWord, startLine, enterLine, withdrawLine, responseLine, lineBytes, rowBytes, badBytes, Wrote};
@@ -77,13 +77,6 @@ fn put_pair(a: u32, b: u32, out: &mut [u8], at: usize) -> usize
 {
     let next = put_spaced(a as u64, out, at);
     put_spaced(b as u64, out, next)
-}
-
-// The size of a number.
-fn size(z: i64) -> u64
-    ensures { λ r. ⌜ r ≡ natAbs z ⌝ }
-{
-    if z < 0 { (-1 - z) as u64 + 1 } else { z as u64 }
 }
 
 fn put_signed(z: i64, out: &mut [u8], at: usize) -> usize

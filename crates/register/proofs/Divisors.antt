@@ -4,25 +4,25 @@ use mathlib.Core.Path.{_≡_, refl, sym, ap, ap₂, _∙_}
 use mathlib.Core.Logic.{_↔_}
 use mathlib.Core.Bool.{Bool, true, false, true≢false, _&&_, _||_}
 use Prim.Native.Nat.{ℕ, zero, suc, _+_, _-_, _*_, _/_, _%_, _^_, _≤_, _<_}
-use native.Mathlib.Nat.{mod-lt, suc-add, add-suc, add-zero, zero-add, add-comm, zero-mul, one-mul, suc-mul, add-assoc, add-mod-mod, mod-add-mod, mul-le-mul, div-add-mod', mul-comm, mod-eq-of-lt, le-of-lt, zero-lt-suc, div-lt-self, mul-div-cancel, mul-mod-left}
+use native.Mathlib.Nat.{mod-lt, suc-add, add-suc, add-zero, zero-add, zero-mul, one-mul, suc-mul, mod-add-mod, mul-le-mul, div-add-mod', mul-comm, mod-eq-of-lt, le-of-lt, div-lt-self, mul-div-cancel, mul-mod-left}
 use native.Mathlib.Decide.{ℕ-discrete, decLt}
 use native.Mathlib.Omega.{arith}
 use borrow.Author.Tests.{eqb-true, eqb-false, eq-eqb, ne-eqb, lt-ltb, ltb-true}
-use lib.Bits.{bitXor, xor-lt}
+use lib.Bits.{xor-lt}
 use lib.Dec.{eqb, ltb}
 use lib.Pow.{pow-pos}
 use Rattle.sums.specs.Sum.{total}
 use Rattle.sums.specs.Lists.{some}
 use Rattle.sums.proofs.Everywhere.{both-true}
 use Rattle.sums.proofs.Seek.{First}
-use Rattle.sums.proofs.Somewhere.{none-of, some-none, some-at}
+use Rattle.sums.proofs.Somewhere.{some-none, some-at}
 use Rattle.sums.proofs.Sum.{total-ext}
-use Rattle.register.specs.Register.{P, bitOf, dot, step, tag-step, tag, Tapped, Maximal}
-use Rattle.register.specs.Doubling.{onward, joined, returnsAt, returnsEarly}
+use Rattle.register.specs.Register.{P, bitOf, dot, step, tag-step, tag, Tapped}
+use Rattle.register.specs.Doubling.{moved, joined, returnsAt, returnsEarly}
 use Rattle.register.proofs.Dot.{dot-lt, dot-zero, dot-one, dot-xor, dot-times}
 use Rattle.register.proofs.Windows.{step-lt, tag-lt, tag-step-lt, adjoint, bit-mul}
 use Rattle.register.proofs.Recurrence.{bit-zero, bit-lt, dot-total, slide}
-use Rattle.register.proofs.TagReturn.{tagPeriod, same-dots, sought, maximal-by-tags}
+use Rattle.register.proofs.TagReturn.{tagPeriod, same-dots, long, sought}
 use Rattle.register.proofs.Word.{small}
 
 -- m steps from any window
@@ -63,33 +63,33 @@ module _ (N taps : ℕ) (t : Tapped N taps) where
   walk-on zero a w = ap (λ k. walk N taps k w) (sym (zero-add a))
   walk-on (suc b) a w = walk-on b a (step N taps w) ∙ ap (λ k. walk N taps k w) (sym (suc-add b a))
 
-  onward-tag : (i m : ℕ) → onward N taps i (tag N taps m) ≡ tag N taps (m + i)
-  unfolding onward tag
-  onward-tag zero m = ap (tag N taps) (sym (add-zero m))
-  onward-tag (suc i) m = ap (tag-step N taps) (onward-tag i m) ∙ ap (tag N taps) (sym (add-suc m i))
+  moved-tag : (i m : ℕ) → moved N taps i (tag N taps m) ≡ tag N taps (m + i)
+  unfolding moved tag
+  moved-tag zero m = ap (tag N taps) (sym (add-zero m))
+  moved-tag (suc i) m = ap (tag-step N taps) (moved-tag i m) ∙ ap (tag N taps) (sym (add-suc m i))
 
-  pub onward-lt : (i m : ℕ) → m < 2 ^ N → onward N taps i m < 2 ^ N
-  unfolding onward
-  onward-lt zero m h = h
-  onward-lt (suc i) m h = tag-step-lt N taps (onward N taps i m) (t .fits) (onward-lt i m h)
+  pub moved-lt : (i m : ℕ) → m < 2 ^ N → moved N taps i m < 2 ^ N
+  unfolding moved
+  moved-lt zero m h = h
+  moved-lt (suc i) m h = tag-step-lt N taps (moved N taps i m) (t .fits) (moved-lt i m h)
 
-  part-lt : (l m i : ℕ) → m < 2 ^ N → bitOf l i * onward N taps i m < 2 ^ N
-  part-lt l m i h = omega (arith, bit-mul (bitOf l i) (onward N taps i m) (bit-lt l i), onward-lt i m h)
+  part-lt : (l m i : ℕ) → m < 2 ^ N → bitOf l i * moved N taps i m < 2 ^ N
+  part-lt l m i h = omega (arith, bit-mul (bitOf l i) (moved N taps i m) (bit-lt l i), moved-lt i m h)
 
   pub joined-lt : (l m k : ℕ) → m < 2 ^ N → joined N taps l m k < 2 ^ N
   unfolding joined
   joined-lt l m zero h = pow-pos N
-  joined-lt l m (suc i) h = xor-lt N (joined N taps l m i) (bitOf l i * onward N taps i m) (joined-lt l m i h) (part-lt l m i h)
+  joined-lt l m (suc i) h = xor-lt N (joined N taps l m i) (bitOf l i * moved N taps i m) (joined-lt l m i h) (part-lt l m i h)
 
-  dot-joined : (l m k w : ℕ) → dot (joined N taps l m k) w ≡ total k (λ i. bitOf l i * dot (onward N taps i m) w) % 2
+  dot-joined : (l m k w : ℕ) → dot (joined N taps l m k) w ≡ total k (λ i. bitOf l i * dot (moved N taps i m) w) % 2
   unfolding joined total
   dot-joined l m zero w = dot-zero w
   dot-joined l m (suc k) w =
-      let o = onward N taps k m in
+      let o = moved N taps k m in
       dot-xor (joined N taps l m k) (bitOf l k * o) w
       ∙ ap₂ (λ a b. (a + b) % 2) (dot-joined l m k w)
       (dot-times (bitOf l k) o w (bit-lt l k) ∙ dot-bits (bitOf l k) (dot o w) (bit-lt l k) (dot-lt o w))
-      ∙ mod-add-mod (total k (λ i. bitOf l i * dot (onward N taps i m) w)) 2 (bitOf l k * dot o w)
+      ∙ mod-add-mod (total k (λ i. bitOf l i * dot (moved N taps i m) w)) 2 (bitOf l k * dot o w)
 
   pub joined-tags : (n m : ℕ) → joined N taps (tag N taps n) (tag N taps m) N ≡ tag N taps (m + n)
   joined-tags n m =
@@ -107,14 +107,14 @@ module _ (N taps : ℕ) (t : Tapped N taps) where
           ∙ ap (λ x. x % 2) (walk-on m n w)
           ∙ sym (reads (m + n) w h)
         where
-          bit : (i : ℕ) → i < N → dot (onward N taps i (tag N taps m)) w ≡ bitOf (walk N taps m w) i
+          bit : (i : ℕ) → i < N → dot (moved N taps i (tag N taps m)) w ≡ bitOf (walk N taps m w) i
           bit i k =
-              ap (λ x. dot x w) (onward-tag i m) ∙ reads (m + i) w h ∙ ap (λ x. x % 2) (sym (walk-on m i w))
+              ap (λ x. dot x w) (moved-tag i m) ∙ reads (m + i) w h ∙ ap (λ x. x % 2) (sym (walk-on m i w))
               ∙ sym (walk-bit i (walk N taps m w) k)
 
   -- a delay doubled, and one step on by a bit
-  pub doubled : (n b : ℕ) {l j r : ℕ} → l ≡ tag N taps n → j ≡ joined N taps l l N → r ≡ onward N taps b j → r ≡ tag N taps (n + n + b)
-  doubled n b e g h = h ∙ ap (onward N taps b) (g ∙ ap (λ x. joined N taps x x N) e ∙ joined-tags n n) ∙ onward-tag b (n + n)
+  pub doubled : (n b : ℕ) {l j r : ℕ} → l ≡ tag N taps n → j ≡ joined N taps l l N → r ≡ moved N taps b j → r ≡ tag N taps (n + n + b)
+  doubled n b e g h = h ∙ ap (moved N taps b) (g ∙ ap (λ x. joined N taps x x N) e ∙ joined-tags n n) ∙ moved-tag b (n + n)
 
   -- ---- divisors of P
 
@@ -131,20 +131,13 @@ module _ (N taps : ℕ) (t : Tapped N taps) where
       ap (tag N taps) s ∙ rounds d e (q * d + r) ∙ many-rounds d e q r
 
   module _ (small-order : N ≤ 16) where
-    long : 1 ≤ P N
-    long = omega (arith, pow-two N (t .some))
-      where
-        pow-two : (n : ℕ) → 0 < n → 2 ≤ 2 ^ n
-        pow-two zero h = absurd (omega arith)
-        pow-two (suc n) h = omega (arith, pow-pos n)
-
     -- P is some times each of its divisors
     whole : (d : ℕ) → P N % d ≡ 0 → P N / d * d ≡ P N
     whole d z = omega (arith, div-add-mod' (P N) d)
 
     times : (d : ℕ) → P N % d ≡ 0 → 0 < P N / d
     times d z = elim (ℕ-discrete (P N / d) 0) [
-      | yes q ↦ absurd (omega (arith, sym (whole d z) ∙ ap (λ x. x * d) q ∙ zero-mul d, long))
+      | yes q ↦ absurd (omega (arith, sym (whole d z) ∙ ap (λ x. x * d) q ∙ zero-mul d, long N taps t))
       | no q ↦ omega arith
     ]
 
@@ -201,7 +194,7 @@ module _ (N taps : ℕ) (t : Tapped N taps) where
             low = and-off (ltb d (P N)) _ (λ l. ne-eqb (tag N taps d) 1 (away d p (ltb-true d (P N) l)))
 
             high : P N % d ≡ 0 → ltb 1 d && eqb (tag N taps (P N / d)) 1 ≡ false
-            high z = and-off (ltb 1 d) _ (λ l. ne-eqb (tag N taps (P N / d)) 1 (away (P N / d) (times d z) (div-lt-self long (ltb-true 1 d l))))
+            high z = and-off (ltb 1 d) _ (λ l. ne-eqb (tag N taps (P N / d)) 1 (away (P N / d) (times d z) (div-lt-self (long N taps t) (ltb-true 1 d l))))
 
     pub by-divisors : ((tag N taps (P N) ≡ 1) × (returnsEarly N taps ≡ false)) ↔ (tagPeriod N taps ≡ P N)
     by-divisors = (to, from)
@@ -214,7 +207,7 @@ module _ (N taps : ℕ) (t : Tapped N taps) where
           | yes l ↦ absurd (less l)
           | no a ↦ elim (ℕ-discrete (tagPeriod N taps) (P N)) [
             | yes e ↦ e
-            | no n ↦ absurd (eqb-false (tag N taps (P N)) 1 (f .before (P N) long (omega arith)) (h .0))
+            | no n ↦ absurd (eqb-false (tag N taps (P N)) 1 (f .before (P N) (long N taps t) (omega arith)) (h .0))
           ]
         ]
           where

@@ -74,7 +74,7 @@ module _ (N taps : ℕ) (t : Tapped N taps) where
   unfolding tagPeriod
   sought = seek-first (λ k. eqb (tag N taps k) 1) (P N) 1
 
-  long : 1 ≤ P N
+  pub long : 1 ≤ P N
   long = omega (arith, pow-lt (t .some))
 
   -- ---- from the tags to the windows

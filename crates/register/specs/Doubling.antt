@@ -6,15 +6,15 @@ use lib.Dec.{eqb, ltb}
 use Rattle.sums.specs.Lists.{some}
 use Rattle.register.specs.Register.{P, bitOf, tag-step, tag}
 
--- i steps on from a tag
-unfoldable pub onward : ℕ → ℕ → ℕ → ℕ → ℕ
-onward N taps zero m = m
-onward N taps (suc i) m = tag-step N taps (onward N taps i m)
+-- a tag moved on by i steps
+unfoldable pub moved : ℕ → ℕ → ℕ → ℕ → ℕ
+moved N taps zero m = m
+moved N taps (suc i) m = tag-step N taps (moved N taps i m)
 
 -- m moved on by each of the first k bits of l that is set, and added up without carry: of two delays' tags, the tag of both
 unfoldable pub joined : ℕ → ℕ → ℕ → ℕ → ℕ → ℕ
 joined N taps l m zero = 0
-joined N taps l m (suc i) = bitXor (joined N taps l m i) (bitOf l i * onward N taps i m)
+joined N taps l m (suc i) = bitXor (joined N taps l m i) (bitOf l i * moved N taps i m)
 
 -- whether d divides P and the tags return after d steps, or after P/d, but for P itself
 abbrev pub returnsAt : ℕ → ℕ → ℕ → Bool

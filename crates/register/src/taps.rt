@@ -9,7 +9,7 @@ ghost use Prim.Native.Nat.{_^_, _≤_, _<_};
 ghost use lib.Dec.{eqb};
 ghost use Rattle.sums.specs.Refusals.{first};
 ghost use Rattle.register.specs.Register.{P, tag as tagOf, Tapped};
-ghost use Rattle.register.specs.Doubling.{onward, joined, returnsAt, returnsEarly};
+ghost use Rattle.register.specs.Doubling.{moved, joined, returnsAt, returnsEarly};
 ghost use Rattle.register.specs.Calls.{shapeChecks, tapsAnswer, defaultOutcome};
 
 // Of the tags of two delays, the tag of both.
@@ -33,7 +33,7 @@ fn join(order: u32, taps: u32, l: u32, m: u32) -> u32
 // A tag, one step on where the bit is set.
 fn step_by(order: u32, taps: u32, tag: u32, bit: u32) -> u32
     requires { ⌜ (order ≤ 16) × (taps < 2 ^ order) × (tag < 2 ^ order) × (bit < 2) ⌝ }
-    ensures { λ r. ⌜ r ≡ onward order taps bit tag ⌝ }
+    ensures { λ r. ⌜ r ≡ moved order taps bit tag ⌝ }
 {
     if bit == 0 {
         tag

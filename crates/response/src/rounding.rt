@@ -73,16 +73,10 @@ fn near_by(a: u64, d: u64, shift: u32, m: u64) -> u64
 }
 
 // The size of a number.
-fn size(z: i64) -> u64
-    requires { ⌜ natAbs z < 2 ^ 63 ⌝ }
+pub fn size(z: i64) -> u64
     ensures { λ n. ⌜ n ≡ natAbs z ⌝ }
 {
-    if z < 0 {
-        let a = -z;
-        a as u64
-    } else {
-        z as u64
-    }
+    if z < 0 { (-1 - z) as u64 + 1 } else { z as u64 }
 }
 
 // n with the sign of z.

@@ -1,14 +1,14 @@
 -- The laws of finite sums. Assumes nothing.
 use Prim.Native.Nat.{ℕ, zero, suc, _+_, _*_, _-_, _%_, _≤_, _<_, zero-le}
 use mathlib.Core.Path.{_≡_, refl, sym, ap, ap₂, _∙_, subst}
-use native.Mathlib.Nat.{le-of-eq, le-trans, add-zero, add-suc, add-comm, mul-add, mod-lt, mod-eq-of-lt, add-mod-mod, add-mod-right}
+use native.Mathlib.Nat.{add-zero, add-suc, add-comm, mul-add, mod-lt, mod-eq-of-lt, add-mod-mod, add-mod-right}
 use native.Mathlib.Decide.{ℕ-discrete}
 use borrow.Author.Tests.{eq-eqb, ne-eqb}
 use native.Mathlib.Numerals.{add-one}
 use native.Mathlib.Omega.{arith}
 use lib.IntN.{ℤ, pos, negℤ, natAbs, _+ℤ_, _-ℤ_, _*ℤ_, +ℤ-idr, +ℤ-idl, +ℤ-assoc, +ℤ-comm, negℤ-+ℤ, *ℤ-zero, zero-*ℤ, *ℤ-comm}
 use Rattle.sums.specs.Sum.{sum, total, delta}
-use Rattle.sums.proofs.Ring.{ring, *ℤ-+ℤ, *ℤ-left-comm, one-*ℤ, +ℤ-mix}
+use Rattle.sums.proofs.Ring.{ring, *ℤ-+ℤ, one-*ℤ, +ℤ-mix}
 use Rattle.sums.proofs.Bound.{natAbs-+}
 
 pub sum-suc : (n : ℕ) (f : ℕ → ℤ) → sum (suc n) f ≡ sum n f +ℤ f n

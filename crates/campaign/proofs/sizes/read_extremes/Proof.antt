@@ -8,6 +8,7 @@ use lib.IntN.{ℤ, pos, natAbs, _-ℤ_}
 use lib.ListN.{length}
 use mir.Syntax.{w64}
 use mir.Val.{ofZ, toZ}
+use borrow.Author.Needs.{needs}
 use Rattle.sums.specs.Lists.{at}
 use Rattle.sums.proofs.Bound.{read, natAbs-sub}
 use Rattle.register.specs.Register.{tag as tagOf}
@@ -129,11 +130,7 @@ lower-requires : tie.Need-lower-requires Inv-loop μ-loop
 lower-requires c κs = tt
 
 larger-requires : tie.Need-larger-requires Inv-loop μ-loop
-larger-requires c κs =
-    let l = c .before .before .before .before .before in
-    let b = l .before .before .before in
-    let p = l .loop .inv .4 in
-    (rw (p .is) (small b (p .place)), rw (here (c .before .before)) (small b (l .loop .k - 1)))
+larger-requires c κs = tt
 
 loop-less : tie.Need-loop-less Inv-loop μ-loop
 loop-less c = omega arith

@@ -6,7 +6,7 @@ use native.Mathlib.Omega.{arith}
 use mir.Syntax.{w64}
 use mir.Val.{toZ, ofZ, SFits}
 use mir.ValLaws.{toZ-ofZ}
-use Rattle.lines.proofs.Below.{negative, from-below}
+use Rattle.sums.proofs.Below.{negative, from-below}
 use Rattle.lines.proofs.digest.below_zero.Statement.{statement}
 use Rattle.lines.proofs.digest.below_zero.Tie as tie
 

@@ -5,7 +5,6 @@ use Prim.Native.Nat.{ℕ, _-_, _≤_}
 use native.Mathlib.Omega.{arith}
 use lib.IntN.{ℤ, pos}
 use lib.ListN.{length, getD}
-use mir.Syntax.{w64}
 use mir.Facts.{toZ-ofZ}
 use Rattle.lines.specs.Digest.{digest}
 use Rattle.lines.proofs.Folding.{digest-none, digest-lt, digest-more}

@@ -5,7 +5,7 @@ use Prim.Native.Nat.{ℕ, suc, _+_, _-_, _≤_}
 use native.Mathlib.Omega.{arith}
 use Rattle.sums.specs.Lists.{some}
 use Rattle.sums.proofs.Somewhere.{some-at, some-past}
-use Rattle.register.specs.Doubling.{returnsAt, returnsEarly}
+use Rattle.register.specs.Doubling.{returnsAt}
 use Rattle.register.proofs.taps.returns_early.Statement.{statement}
 use Rattle.register.proofs.taps.returns_early.Tie as tie
 

@@ -2,7 +2,7 @@
 use mathlib.Core.Path.{_≡_, sym, ap, _∙_}
 use native.Mathlib.Omega.{arith}
 use borrow.Author.Needs.{needs}
-use Rattle.register.specs.Doubling.{onward}
+use Rattle.register.specs.Doubling.{moved}
 use Rattle.register.proofs.taps.step_by.Statement.{statement}
 use Rattle.register.proofs.taps.step_by.Tie as tie
 
@@ -10,15 +10,15 @@ tag-step-requires : tie.Need-tag-step-requires
 tag-step-requires c κs = search needs
 
 returns : tie.Need-returns
-unfolding onward
-returns c = let a = c .before .args in sym (ap (λ b. onward (a .order) (a .taps) b (a .tag)) (c .if1 .taken))
+unfolding moved
+returns c = let a = c .before .args in sym (ap (λ b. moved (a .order) (a .taps) b (a .tag)) (c .if1 .taken))
 
 returns-2 : tie.Need-returns-2
-unfolding onward
+unfolding moved
 returns-2 c =
     let a = c .before .before .args in
     let e : a .bit ≡ 1 = omega arith in
-    c .tag-step .ensures ∙ sym (ap (λ b. onward (a .order) (a .taps) b (a .tag)) e)
+    c .tag-step .ensures ∙ sym (ap (λ b. moved (a .order) (a .taps) b (a .tag)) e)
 
 pub step-by-spec : {M : Type 1} → statement M
 step-by-spec = tie.close (tie.spec tag-step-requires returns returns-2)

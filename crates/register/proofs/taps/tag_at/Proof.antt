@@ -3,7 +3,6 @@ use mathlib.Core.Path.{_≡_, sym, ap, _∙_}
 use Prim.Native.Nat.{ℕ, _+_, _-_, _*_, _/_, _%_, _^_, _≤_, _<_}
 use native.Mathlib.Nat.{mod-lt, div-one, div-eq-of-lt, div-div-eq-div-mul, zero-lt-suc, pow-suc}
 use native.Mathlib.Omega.{arith}
-use borrow.Author.Needs.{needs}
 use Rattle.register.specs.Register.{tag as tagOf}
 use Rattle.register.proofs.Divisors.{doubled, joined-lt}
 use Rattle.register.proofs.Windows.{tag-lt}

@@ -1,39 +1,51 @@
--- `response::rounding::size` meets its contract: each arm's number is z or -z, whose sign the test shows. Assumes nothing.
-use borrow.Author.Needs.{needs}
-use mathlib.Core.Path.{_≡_, _∙_}
+-- `response::rounding::size` meets its contract: what the machine reads back from a number's bits is the number. Assumes nothing.
+use mathlib.Core.Path.{_≡_, sym}
+use Prim.Native.Nat.{_+_}
 use native.Mathlib.Omega.{arith}
-use lib.IntN.{pos, negℤ, _-ℤ_, +ℤ-idl}
+use borrow.Author.Needs.{needs}
+use lib.IntN.{pos, negsuc, natAbs, _-ℤ_}
+use lib.Signed.{mag}
 use mir.Syntax.{w64}
-use mir.Val.{ofZ, toZ}
-use mir.Facts.{toZ-ofZ}
-use Rattle.sums.proofs.Bound.{small-fits, natAbs-neg, neg-nonNeg, is-nonNeg}
+use mir.Val.{toZ, ofZ, SFits}
+use mir.ValLaws.{toZ-ofZ}
+use Rattle.sums.proofs.Bound.{is-nonNeg, natAbs-≤}
+use Rattle.sums.proofs.Below.{from-below, size-below}
 use Rattle.response.proofs.rounding.size.Statement.{statement}
 use Rattle.response.proofs.rounding.size.Tie as tie
 
-sub-a : tie.Need-sub-a
-sub-a c =
-    let z = c .before .args .z in
-    rw (toZ-ofZ (c .before .fits .z), +ℤ-idl (negℤ z)) (small-fits w64 (negℤ z) (omega (arith, natAbs-neg z, c .before .pre)))
+back : (c : tie.Start) → toZ w64 (ofZ w64 (c .args .z)) ≡ c .args .z
+back c = toZ-ofZ w64 (c .args .z) (c .fits .z)
 
--- the number of the first arm
-negated : (c : tie.Then1) → toZ w64 (ofZ w64 (pos 0 -ℤ toZ w64 (ofZ w64 (c .before .args .z)))) ≡ negℤ (c .before .args .z)
-negated c = toZ-ofZ (sub-a c) ∙ rw (toZ-ofZ (c .before .fits .z)) (+ℤ-idl (negℤ (c .before .args .z)))
+fits : (c : tie.Start) → SFits w64 (pos (mag (c .args .z)))
+fits c = record { sfits = c .fits .z .sfits }
+
+low : (c : tie.Then1) → let z = c .before .args .z in (negsuc 0 -ℤ z ≡ pos (mag z)) × (natAbs z ≡ mag z + 1)
+low c = let z = c .before .args .z in let e = rw (back (c .before)) at (c .if1 .taken) in (from-below z e, size-below z e)
+
+-- what is cast
+distance : (c : tie.Then1) → let z = c .before .args .z in toZ w64 (ofZ w64 (negsuc 0 -ℤ toZ w64 (ofZ w64 z))) ≡ pos (mag z)
+distance c = rw (back (c .before), low c .0) (toZ-ofZ w64 (pos (mag (c .before .args .z))) (fits (c .before)))
+
+sub-result : tie.Need-sub-result
+sub-result c = rw (back (c .before), low c .0) (fits (c .before))
 
 cast-result : tie.Need-cast-result
-cast-result c =
-    let z = c .before .args .z in
-    rw (negated c) (neg-nonNeg z (rw (toZ-ofZ (c .before .fits .z)) at (c .if1 .taken)), record { fits = omega (arith, natAbs-neg z, c .before .pre) })
+cast-result c = rw (distance c) (tt, record { fits = omega (arith, c .before .fits .z .sfits) })
+
+add-result : tie.Need-add-result
+add-result c = rw (distance c) (record { fits = omega (arith, c .before .fits .z .sfits) })
 
 cast-result-2 : tie.Need-cast-result-2
 cast-result-2 c =
-    let f = toZ-ofZ (c .before .fits .z) in
-    rw f (is-nonNeg (c .before .args .z) (rw f at (c .if1 .left)), record { fits = omega (arith, c .before .pre) })
+    let z = c .before .args .z in
+    let e = back (c .before) in
+    rw e (is-nonNeg z (rw e at (c .if1 .left)), record { fits = omega (arith, natAbs-≤ z, c .before .fits .z .sfits) })
 
 returns : tie.Need-returns
-returns c = rw (negated c) (natAbs-neg (c .before .args .z))
+returns c = rw (distance c) (sym (low c .1))
 
 returns-2 : tie.Need-returns-2
 returns-2 c = search needs
 
 pub size-spec : {M : Type 1} → statement M
-size-spec = tie.close (tie.spec sub-a cast-result cast-result-2 returns returns-2)
+size-spec = tie.close (tie.spec sub-result cast-result add-result cast-result-2 returns returns-2)

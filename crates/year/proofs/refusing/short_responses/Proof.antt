@@ -1,10 +1,9 @@
 -- `year::refusing::short_responses` meets its contract: the lent memory keeps its lengths. Assumes nothing.
-use mathlib.Core.Path.{_≡_, refl, sym}
+use mathlib.Core.Path.{_≡_, refl}
 use Prim.Native.Nat.{_-_, _≤_}
 use native.Mathlib.Omega.{arith}
 use borrow.Author.Needs.{needs}
 use lib.ListN.{length}
-use lib.Seq.{length-take-le}
 use Rattle.year.proofs.refusing.short_responses.Statement.{statement}
 use Rattle.year.proofs.refusing.short_responses.Tie as tie
 
