@@ -8,13 +8,13 @@ use borrow.Fn.Kinds.{PK, RK, Dens, Out, endedOf, resT}
 use denote.Ref.{now}
 use denote.Triple.Clauses.{AtExit}
 use lib.IntN.{ℤ}
-use Rattle.register.specs.Calls.{stepOutcome, playOutcome}
-use Rattle.register.specs.declared.DefaultTaps.{DefaultTaps}
-use Rattle.register.specs.declared.NewPlayer.{NewPlayer}
-use Rattle.register.specs.declared.Player.{Player}
-use Rattle.register.specs.declared.Played.{Played}
-use Rattle.register.specs.declared.Stepped.{Stepped}
-use Rattle.register.specs.declared.Tick.{Tick}
+use Rattle.player.specs.Calls.{stepOutcome, playOutcome}
+use Rattle.defaults.specs.declared.DefaultTaps.{DefaultTaps}
+use Rattle.player.specs.declared.NewPlayer.{NewPlayer}
+use Rattle.player.specs.declared.Player.{Player}
+use Rattle.player.specs.declared.Played.{Played}
+use Rattle.player.specs.declared.Stepped.{Stepped}
+use Rattle.player.specs.declared.Tick.{Tick}
 use Rattle.campaign.specs.declared.Started.{Started}
 use Rattle.campaign.specs.declared.Entered.{Entered}
 use Rattle.campaign.specs.declared.Withdrawn.{Withdrawn}
@@ -22,16 +22,16 @@ use Rattle.campaign.specs.declared.Counts.{Counts}
 use Rattle.campaign.specs.declared.Summary.{Summary}
 use Rattle.register.proofs.taps.check_taps.Kinds as check-taps-kinds
 use Rattle.register.proofs.taps.check_taps.Reads as check-taps
-use Rattle.register.proofs.taps.default_taps.Kinds as default-taps-kinds
-use Rattle.register.proofs.taps.default_taps.Reads as default-taps
+use Rattle.defaults.proofs.taps.default_taps.Kinds as default-taps-kinds
+use Rattle.defaults.proofs.taps.default_taps.Reads as default-taps
 use Rattle.register.proofs.sequence.sequence.Kinds as sequence-kinds
 use Rattle.register.proofs.sequence.sequence.Reads as sequence
-use Rattle.register.proofs.clock.new_player.Kinds as new-player-kinds
-use Rattle.register.proofs.clock.new_player.Reads as new-player
-use Rattle.register.proofs.clock.step_player.Kinds as step-player-kinds
-use Rattle.register.proofs.clock.step_player.Reads as step-player
-use Rattle.register.proofs.clock.play.Kinds as play-kinds
-use Rattle.register.proofs.clock.play.Reads as play
+use Rattle.player.proofs.clock.new_player.Kinds as new-player-kinds
+use Rattle.player.proofs.clock.new_player.Reads as new-player
+use Rattle.player.proofs.clock.step_player.Kinds as step-player-kinds
+use Rattle.player.proofs.clock.step_player.Reads as step-player
+use Rattle.player.proofs.clock.play.Kinds as play-kinds
+use Rattle.player.proofs.clock.play.Reads as play
 use Rattle.response.proofs.one_recording.Kinds as one-recording-kinds
 use Rattle.response.proofs.one_recording.Reads as one-recording
 use Rattle.response.proofs.predict.Kinds as predict-kinds

@@ -3,16 +3,17 @@
 use mathlib.Core.List.{List}
 use Prim.Native.Nat.{ℕ}
 use lib.IntN.{ℤ}
-use Rattle.register.specs.declared.Player.{Player}
-use Rattle.register.specs.declared.DefaultTaps.{DefaultTaps}
-use Rattle.register.specs.declared.DefaultTaps.the-variants as default
-use Rattle.register.specs.declared.NewPlayer.{NewPlayer}
-use Rattle.register.specs.declared.NewPlayer.the-variants as new
-use Rattle.register.specs.declared.Tick.{Tick}
-use Rattle.register.specs.declared.Tick.the-variants as tick
-use Rattle.register.specs.declared.Stepped.{Stepped}
-use Rattle.register.specs.declared.Played.{Played}
-use Rattle.register.specs.Calls.{defaultOutcome, newOutcome, stepOutcome, playOutcome, tickNumber}
+use Rattle.player.specs.declared.Player.{Player}
+use Rattle.defaults.specs.declared.DefaultTaps.{DefaultTaps}
+use Rattle.defaults.specs.declared.DefaultTaps.the-variants as default
+use Rattle.player.specs.declared.NewPlayer.{NewPlayer}
+use Rattle.player.specs.declared.NewPlayer.the-variants as new
+use Rattle.player.specs.declared.Tick.{Tick}
+use Rattle.player.specs.declared.Tick.the-variants as tick
+use Rattle.player.specs.declared.Stepped.{Stepped}
+use Rattle.player.specs.declared.Played.{Played}
+use Rattle.defaults.specs.Calls.{defaultOutcome}
+use Rattle.player.specs.Calls.{newOutcome, stepOutcome, playOutcome, tickNumber}
 
 abbrev pub playerOf : ℕ → ℕ → ℕ → ℕ → Player
 playerOf N taps window count = record { order = N; taps = taps; window = window; count = count }

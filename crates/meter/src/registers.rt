@@ -1,14 +1,14 @@
 // The doors of the register: taps, sequence, player. A player crosses as its four numbers.
-use register::DefaultTaps;
-use register::NewPlayer;
-use register::Player;
-use register::Tick;
-use register::clock::new_player;
-use register::clock::play;
-use register::clock::step_player;
+use defaults::DefaultTaps;
+use defaults::taps::default_taps;
+use player::NewPlayer;
+use player::Player;
+use player::Tick;
+use player::clock::new_player;
+use player::clock::play;
+use player::clock::step_player;
 use register::sequence::sequence;
 use register::taps::check_taps;
-use register::taps::default_taps;
 ghost use mathlib.Core.Path.{_≡_};
 ghost use Rattle.register.specs.Calls.{tapsAnswer, sequenceOutcome};
 ghost use Rattle.meter.specs.Players.{playerOf, defaultDoor, newDoor, stepDoor, playDoor};

@@ -1,8 +1,8 @@
 // The lines of the taps check and of the default taps.
+use defaults::DefaultTaps;
+use defaults::taps::default_taps;
 use lines::print::three;
-use register::DefaultTaps;
 use register::taps::check_taps;
-use register::taps::default_taps;
 
 fn taps_line(order: u32, taps: u32) {
     three(

@@ -1,6 +1,8 @@
 // The lines of every order's prediction and of its response, and of the loudest recordings.
 use crate::signals::fill_pattern;
 use crate::signals::fill_turns;
+use defaults::DefaultTaps;
+use defaults::taps::default_taps;
 use lines::digest::digest_samples;
 use lines::digest::digest_scaled;
 use lines::digest::digest_wide;
@@ -8,9 +10,7 @@ use lines::print::line_end;
 use lines::print::number;
 use lines::print::three;
 use lines::print::word;
-use register::DefaultTaps;
 use register::shift::full_period;
-use register::taps::default_taps;
 ghost use mathlib.Core.Path.{_≡_};
 ghost use Prim.Native.Nat.{_≤_};
 ghost use lib.ListN.{length};

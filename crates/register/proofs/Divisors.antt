@@ -10,7 +10,7 @@ use native.Mathlib.Omega.{arith}
 use borrow.Author.Tests.{eqb-true, eqb-false, eq-eqb, ne-eqb, lt-ltb, ltb-true}
 use lib.Bits.{xor-lt}
 use lib.Dec.{eqb, ltb}
-use lib.Pow.{pow-pos}
+use lib.Pow.{pow-pos, pow-add, pow-mono}
 use Rattle.sums.specs.Sum.{total}
 use Rattle.sums.specs.Lists.{some}
 use Rattle.sums.proofs.Everywhere.{both-true}
@@ -18,12 +18,11 @@ use Rattle.sums.proofs.Seek.{First}
 use Rattle.sums.proofs.Somewhere.{some-none, some-at}
 use Rattle.sums.proofs.Sum.{total-ext}
 use Rattle.register.specs.Register.{P, bitOf, dot, step, tag-step, tag, Tapped}
-use Rattle.register.specs.Doubling.{moved, joined, returnsAt, returnsEarly}
+use Rattle.register.specs.Doubling.{moved, joined, half, returnsAt, returnsEarly}
 use Rattle.register.proofs.Dot.{dot-lt, dot-zero, dot-one, dot-xor, dot-times}
 use Rattle.register.proofs.Windows.{step-lt, tag-lt, tag-step-lt, adjoint, bit-mul}
 use Rattle.register.proofs.Recurrence.{bit-zero, bit-lt, dot-total, slide}
 use Rattle.register.proofs.TagReturn.{tagPeriod, same-dots, long, sought}
-use Rattle.register.proofs.Word.{small}
 
 -- m steps from any window
 unfoldable walk : ℕ → ℕ → ℕ → ℕ → ℕ
@@ -130,102 +129,110 @@ module _ (N taps : ℕ) (t : Tapped N taps) where
       let s : suc q * d + r ≡ (q * d + r) + d = omega (arith, suc-mul q d) in
       ap (tag N taps) s ∙ rounds d e (q * d + r) ∙ many-rounds d e q r
 
-  module _ (small-order : N ≤ 16) where
-    -- P is some times each of its divisors
-    whole : (d : ℕ) → P N % d ≡ 0 → P N / d * d ≡ P N
-    whole d z = omega (arith, div-add-mod' (P N) d)
+  pub half-le : half N ≤ 2 ^ N
+  half-le = let e : (N + 1) / 2 ≤ N = omega (arith, t .some) in pow-mono e
 
-    times : (d : ℕ) → P N % d ≡ 0 → 0 < P N / d
-    times d z = elim (ℕ-discrete (P N / d) 0) [
-      | yes q ↦ absurd (omega (arith, sym (whole d z) ∙ ap (λ x. x * d) q ∙ zero-mul d, long N taps t))
-      | no q ↦ omega arith
-    ]
+  square : 2 ^ N ≤ half N * half N
+  square =
+      let h = (N + 1) / 2 in
+      let e : N ≤ h + h = omega arith in
+      omega (arith, pow-mono e, pow-add 2 h h)
 
-    -- a divisor below P at which they return is found
-    found : (d : ℕ) → 0 < d → d < P N → P N % d ≡ 0 → tag N taps d ≡ 1 → returnsEarly N taps ≡ true
-    found d p l z e = elim (decLt d 256) [
-      | yes s ↦ some-at (λ i. returnsAt N taps (i + 1)) 255 (d - 1) (omega arith) (ap (returnsAt N taps) (back d p) ∙ here)
-      | no s ↦ some-at (λ i. returnsAt N taps (i + 1)) 255 (f - 1) (few s) (ap (returnsAt N taps) (back f (times d z)) ∙ there)
-    ]
-      where
-        f : ℕ
-        f = P N / d
+  -- P is some times each of its divisors
+  whole : (d : ℕ) → P N % d ≡ 0 → P N / d * d ≡ P N
+  whole d z = omega (arith, div-add-mod' (P N) d)
 
-        back : (k : ℕ) → 0 < k → k - 1 + 1 ≡ k
-        back k h = omega arith
+  times : (d : ℕ) → P N % d ≡ 0 → 0 < P N / d
+  times d z = elim (ℕ-discrete (P N / d) 0) [
+    | yes q ↦ absurd (omega (arith, sym (whole d z) ∙ ap (λ x. x * d) q ∙ zero-mul d, long N taps t))
+    | no q ↦ omega arith
+  ]
 
-        few : (d < 256 → ⊥) → P N / d - 1 < 255
-        few s = elim (decLt (P N / d) 256) [
-          | yes h ↦ omega arith
-          | no h ↦
-              let a : 256 ≤ P N / d = omega arith in
-              let b : 256 ≤ d = omega arith in
-              absurd (omega (arith, mul-le-mul a b, whole d z, small small-order))
+  -- a divisor below P at which they return is found
+  found : (d : ℕ) → 0 < d → d < P N → P N % d ≡ 0 → tag N taps d ≡ 1 → returnsEarly N taps ≡ true
+  found d p l z e = elim (decLt d (half N)) [
+    | yes s ↦ some-at (λ i. returnsAt N taps (i + 1)) (half N - 1) (d - 1) (omega arith) (ap (returnsAt N taps) (back d p) ∙ here)
+    | no s ↦ some-at (λ i. returnsAt N taps (i + 1)) (half N - 1) (f - 1) (few s) (ap (returnsAt N taps) (back f (times d z)) ∙ there)
+  ]
+    where
+      f : ℕ
+      f = P N / d
+
+      back : (k : ℕ) → 0 < k → k - 1 + 1 ≡ k
+      back k h = omega arith
+
+      few : (d < half N → ⊥) → P N / d - 1 < half N - 1
+      few s = elim (decLt (P N / d) (half N)) [
+        | yes h ↦ omega (arith, times d z)
+        | no h ↦
+            let a : half N ≤ P N / d = omega arith in
+            let b : half N ≤ d = omega arith in
+            absurd (omega (arith, mul-le-mul a b, whole d z, square, pow-pos N))
+      ]
+
+      more : 1 < P N / d
+      more = elim (ℕ-discrete (P N / d) 1) [
+        | yes q ↦ absurd (omega (arith, sym (whole d z) ∙ ap (λ x. x * d) q ∙ one-mul d))
+        | no q ↦ omega (arith, times d z)
+      ]
+
+      here : returnsAt N taps d ≡ true
+      here = simp (eq-eqb (P N % d) 0 z, lt-ltb d (P N) l, eq-eqb (tag N taps d) 1 e)
+
+      there : returnsAt N taps (P N / d) ≡ true
+      there =
+          let g = P N / d in
+          let m : P N % g ≡ 0 = ap (λ x. x % g) (sym (whole d z) ∙ mul-comm g d) ∙ mul-mod-left d g in
+          let q : P N / g ≡ d = ap (λ x. x / g) (sym (whole d z) ∙ mul-comm g d) ∙ mul-div-cancel d (times d z) in
+          either (ltb g (P N) && eqb (tag N taps g) 1) (eq-eqb (P N % g) 0 m) (both-true (lt-ltb 1 g more) (eq-eqb (tag N taps (P N / g)) 1 (ap (tag N taps) q ∙ e)))
+        where
+          either : {z : Bool} (a : Bool) {b : Bool} → z ≡ true → b ≡ true → z && (a || b) ≡ true
+          either true p q = ap₂ (λ x y. x && (true || y)) p q
+          either false p q = ap₂ (λ x y. x && (false || y)) p q
+
+  -- what is found there is a return before P
+  no-divisor : ((k : ℕ) → 0 < k → k < P N → tag N taps k ≡ 1 → ⊥) → returnsEarly N taps ≡ false
+  no-divisor away = some-none (λ i. returnsAt N taps (i + 1)) (half N - 1) (λ i _. none (i + 1) (omega arith))
+    where
+      none : (d : ℕ) → 0 < d → returnsAt N taps d ≡ false
+      none d p = and-off (eqb (P N % d) 0) _ (λ z. ap₂ _||_ low (high (eqb-true (P N % d) 0 z)))
+        where
+          low : ltb d (P N) && eqb (tag N taps d) 1 ≡ false
+          low = and-off (ltb d (P N)) _ (λ l. ne-eqb (tag N taps d) 1 (away d p (ltb-true d (P N) l)))
+
+          high : P N % d ≡ 0 → ltb 1 d && eqb (tag N taps (P N / d)) 1 ≡ false
+          high z = and-off (ltb 1 d) _ (λ l. ne-eqb (tag N taps (P N / d)) 1 (away (P N / d) (times d z) (div-lt-self (long N taps t) (ltb-true 1 d l))))
+
+  pub by-divisors : ((tag N taps (P N) ≡ 1) × (returnsEarly N taps ≡ false)) ↔ (tagPeriod N taps ≡ P N)
+  by-divisors = (to, from)
+    where
+      f : First (λ k. eqb (tag N taps k) 1) (P N) 1 (tagPeriod N taps)
+      f = sought N taps t
+
+      to : (tag N taps (P N) ≡ 1) × (returnsEarly N taps ≡ false) → tagPeriod N taps ≡ P N
+      to h = elim (decLt (tagPeriod N taps) (P N)) [
+        | yes l ↦ absurd (less l)
+        | no a ↦ elim (ℕ-discrete (tagPeriod N taps) (P N)) [
+          | yes e ↦ e
+          | no n ↦ absurd (eqb-false (tag N taps (P N)) 1 (f .before (P N) (long N taps t) (omega arith)) (h .0))
         ]
+      ]
+        where
+          home : tagPeriod N taps < P N → tag N taps (tagPeriod N taps) ≡ 1
+          home l = eqb-true (tag N taps (tagPeriod N taps)) 1 (f .here (omega arith))
 
-        more : 1 < P N / d
-        more = elim (ℕ-discrete (P N / d) 1) [
-          | yes q ↦ absurd (omega (arith, sym (whole d z) ∙ ap (λ x. x * d) q ∙ one-mul d))
-          | no q ↦ omega (arith, times d z)
-        ]
-
-        here : returnsAt N taps d ≡ true
-        here = simp (eq-eqb (P N % d) 0 z, lt-ltb d (P N) l, eq-eqb (tag N taps d) 1 e)
-
-        there : returnsAt N taps (P N / d) ≡ true
-        there =
-            let g = P N / d in
-            let m : P N % g ≡ 0 = ap (λ x. x % g) (sym (whole d z) ∙ mul-comm g d) ∙ mul-mod-left d g in
-            let q : P N / g ≡ d = ap (λ x. x / g) (sym (whole d z) ∙ mul-comm g d) ∙ mul-div-cancel d (times d z) in
-            either (ltb g (P N) && eqb (tag N taps g) 1) (eq-eqb (P N % g) 0 m) (both-true (lt-ltb 1 g more) (eq-eqb (tag N taps (P N / g)) 1 (ap (tag N taps) q ∙ e)))
-          where
-            either : {z : Bool} (a : Bool) {b : Bool} → z ≡ true → b ≡ true → z && (a || b) ≡ true
-            either true p q = ap₂ (λ x y. x && (true || y)) p q
-            either false p q = ap₂ (λ x y. x && (false || y)) p q
-
-    -- what is found there is a return before P
-    no-divisor : ((k : ℕ) → 0 < k → k < P N → tag N taps k ≡ 1 → ⊥) → returnsEarly N taps ≡ false
-    no-divisor away = some-none (λ i. returnsAt N taps (i + 1)) 255 (λ i _. none (i + 1) (omega arith))
-      where
-        none : (d : ℕ) → 0 < d → returnsAt N taps d ≡ false
-        none d p = and-off (eqb (P N % d) 0) _ (λ z. ap₂ _||_ low (high (eqb-true (P N % d) 0 z)))
-          where
-            low : ltb d (P N) && eqb (tag N taps d) 1 ≡ false
-            low = and-off (ltb d (P N)) _ (λ l. ne-eqb (tag N taps d) 1 (away d p (ltb-true d (P N) l)))
-
-            high : P N % d ≡ 0 → ltb 1 d && eqb (tag N taps (P N / d)) 1 ≡ false
-            high z = and-off (ltb 1 d) _ (λ l. ne-eqb (tag N taps (P N / d)) 1 (away (P N / d) (times d z) (div-lt-self (long N taps t) (ltb-true 1 d l))))
-
-    pub by-divisors : ((tag N taps (P N) ≡ 1) × (returnsEarly N taps ≡ false)) ↔ (tagPeriod N taps ≡ P N)
-    by-divisors = (to, from)
-      where
-        f : First (λ k. eqb (tag N taps k) 1) (P N) 1 (tagPeriod N taps)
-        f = sought N taps t
-
-        to : (tag N taps (P N) ≡ 1) × (returnsEarly N taps ≡ false) → tagPeriod N taps ≡ P N
-        to h = elim (decLt (tagPeriod N taps) (P N)) [
-          | yes l ↦ absurd (less l)
-          | no a ↦ elim (ℕ-discrete (tagPeriod N taps) (P N)) [
-            | yes e ↦ e
-            | no n ↦ absurd (eqb-false (tag N taps (P N)) 1 (f .before (P N) (long N taps t) (omega arith)) (h .0))
+          less : tagPeriod N taps < P N → ⊥
+          less l = elim (ℕ-discrete (P N % tagPeriod N taps) 0) [
+            | yes z ↦ true≢false (sym (found (tagPeriod N taps) (f .from) l z (home l)) ∙ h .1)
+            | no n ↦
+                eqb-false (tag N taps (P N % tagPeriod N taps)) 1
+                (f .before (P N % tagPeriod N taps) (omega arith) (mod-lt (P N) (f .from)))
+                (sym (many-rounds (tagPeriod N taps) (home l) (P N / tagPeriod N taps) (P N % tagPeriod N taps))
+                ∙ ap (tag N taps) (div-add-mod' (P N) (tagPeriod N taps)) ∙ h .0)
           ]
-        ]
-          where
-            home : tagPeriod N taps < P N → tag N taps (tagPeriod N taps) ≡ 1
-            home l = eqb-true (tag N taps (tagPeriod N taps)) 1 (f .here (omega arith))
 
-            less : tagPeriod N taps < P N → ⊥
-            less l = elim (ℕ-discrete (P N % tagPeriod N taps) 0) [
-              | yes z ↦ true≢false (sym (found (tagPeriod N taps) (f .from) l z (home l)) ∙ h .1)
-              | no n ↦
-                  eqb-false (tag N taps (P N % tagPeriod N taps)) 1
-                  (f .before (P N % tagPeriod N taps) (omega arith) (mod-lt (P N) (f .from)))
-                  (sym (many-rounds (tagPeriod N taps) (home l) (P N / tagPeriod N taps) (P N % tagPeriod N taps))
-                  ∙ ap (tag N taps) (div-add-mod' (P N) (tagPeriod N taps)) ∙ h .0)
-            ]
-
-        from : tagPeriod N taps ≡ P N → (tag N taps (P N) ≡ 1) × (returnsEarly N taps ≡ false)
-        from e = (
-          ap (tag N taps) (sym e) ∙ eqb-true (tag N taps (tagPeriod N taps)) 1 (f .here (omega arith)),
-          no-divisor (λ k p l. eqb-false (tag N taps k) 1 (f .before k p (omega arith))),
-        )
+      from : tagPeriod N taps ≡ P N → (tag N taps (P N) ≡ 1) × (returnsEarly N taps ≡ false)
+      from e = (
+        ap (tag N taps) (sym e) ∙ eqb-true (tag N taps (tagPeriod N taps)) 1 (f .here (omega arith)),
+        no-divisor (λ k p l. eqb-false (tag N taps k) 1 (f .before k p (omega arith))),
+      )

@@ -8,9 +8,4 @@ pub mod Correlation
 pub mod Judged
 pub mod TagReturn
 pub mod Divisors
-pub mod Certificate
-pub mod Playable
-pub mod Playing
-pub mod Blocks
 pub mod Sequences
-mod Defaults

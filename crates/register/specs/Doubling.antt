@@ -1,6 +1,6 @@
 -- The tag of a delay, got by doubling; and whether the tags return before P steps, looked for at the divisors of P alone. Assumes nothing.
 use mathlib.Core.Bool.{Bool, _&&_, _||_}
-use Prim.Native.Nat.{ℕ, zero, suc, _+_, _*_, _/_, _%_}
+use Prim.Native.Nat.{ℕ, zero, suc, _+_, _-_, _*_, _/_, _%_, _^_}
 use lib.Bits.{bitXor}
 use lib.Dec.{eqb, ltb}
 use Rattle.sums.specs.Lists.{some}
@@ -20,6 +20,9 @@ joined N taps l m (suc i) = bitXor (joined N taps l m i) (bitOf l i * moved N ta
 abbrev pub returnsAt : ℕ → ℕ → ℕ → Bool
 returnsAt N taps d = eqb (P N % d) 0 && ((ltb d (P N) && eqb (tag N taps d) 1) || (ltb 1 d && eqb (tag N taps (P N / d)) 1))
 
--- one of two divisors that go together is below 256
+-- one of two divisors that go together has at most half the order's bits, rounded up
+abbrev pub half : ℕ → ℕ
+half N = 2 ^ ((N + 1) / 2)
+
 abbrev pub returnsEarly : ℕ → ℕ → Bool
-returnsEarly N taps = some 255 (λ i. returnsAt N taps (i + 1))
+returnsEarly N taps = some (half N - 1) (λ i. returnsAt N taps (i + 1))

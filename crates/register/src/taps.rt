@@ -1,6 +1,5 @@
 // Taps: judged by the first return of the tags, which comes after the full period where the register's does, and is looked for at the divisors of the
-// period alone; and the default taps.
-use crate::DefaultTaps;
+// period alone.
 use crate::shift::full_period;
 use crate::shift::tag_step;
 ghost use mathlib.Core.Path.{_≡_};
@@ -9,8 +8,8 @@ ghost use Prim.Native.Nat.{_^_, _≤_, _<_};
 ghost use lib.Dec.{eqb};
 ghost use Rattle.sums.specs.Refusals.{first};
 ghost use Rattle.register.specs.Register.{P, tag as tagOf, Tapped};
-ghost use Rattle.register.specs.Doubling.{moved, joined, returnsAt, returnsEarly};
-ghost use Rattle.register.specs.Calls.{shapeChecks, tapsAnswer, defaultOutcome};
+ghost use Rattle.register.specs.Doubling.{moved, joined, half as halfOf, returnsAt, returnsEarly};
+ghost use Rattle.register.specs.Calls.{shapeChecks, tapsAnswer};
 
 // Of the tags of two delays, the tag of both.
 fn join(order: u32, taps: u32, l: u32, m: u32) -> u32
@@ -44,11 +43,11 @@ fn step_by(order: u32, taps: u32, tag: u32, bit: u32) -> u32
 
 // The tag of a delay, which is doubled bit by bit from the top.
 fn tag_at(order: u32, taps: u32, m: u32) -> u32
-    requires { ⌜ (order ≤ 16) × Tapped order taps × (m < 65536) ⌝ }
+    requires { ⌜ (order ≤ 16) × Tapped order taps × (m < 2 ^ order) ⌝ }
     ensures { λ r. ⌜ r ≡ tagOf order taps m ⌝ }
 {
     let mut tag = 1;
-    let mut k = 16u32;
+    let mut k = order;
     while 0 < k {
         k -= 1;
         tag = step_by(order, taps, join(order, taps, tag, tag), (m >> k) % 2);
@@ -58,7 +57,7 @@ fn tag_at(order: u32, taps: u32, m: u32) -> u32
 
 // Whether the tags return after m steps, where that is asked.
 fn home(order: u32, taps: u32, m: u32, asked: bool) -> bool
-    requires { ⌜ (order ≤ 16) × Tapped order taps × (m < 65536) ⌝ }
+    requires { ⌜ (order ≤ 16) × Tapped order taps × (m < 2 ^ order) ⌝ }
     ensures { λ r. ⌜ r ≡ asked && eqb (tagOf order taps m) 1 ⌝ }
 {
     asked && tag_at(order, taps, m) == 1
@@ -66,7 +65,7 @@ fn home(order: u32, taps: u32, m: u32, asked: bool) -> bool
 
 // Whether d divides P and the tags return after d steps or after P/d, but for P itself.
 fn returns_at(order: u32, taps: u32, whole: u32, d: u32) -> bool
-    requires { ⌜ (order ≤ 16) × Tapped order taps × (whole ≡ P order) × (0 < d) × (d < 256) ⌝ }
+    requires { ⌜ (order ≤ 16) × Tapped order taps × (whole ≡ P order) × (0 < d) × (d < 2 ^ order) ⌝ }
     ensures { λ r. ⌜ r ≡ returnsAt order taps d ⌝ }
 {
     if whole % d != 0 {
@@ -75,14 +74,23 @@ fn returns_at(order: u32, taps: u32, whole: u32, d: u32) -> bool
     home(order, taps, d, d < whole) || home(order, taps, whole / d, 1 < d)
 }
 
+// Of two divisors that go together one is below this.
+fn half(order: u32) -> u32
+    requires { ⌜ order ≤ 16 ⌝ }
+    ensures { λ r. ⌜ r ≡ halfOf order ⌝ }
+{
+    1 << ((order + 1) / 2)
+}
+
 // Whether the tags return after a divisor of P below it.
 fn returns_early(order: u32, taps: u32) -> bool
     requires { ⌜ (order ≤ 16) × Tapped order taps ⌝ }
     ensures { λ r. ⌜ r ≡ returnsEarly order taps ⌝ }
 {
     let whole = full_period(order);
+    let end = half(order);
     let mut d = 1;
-    while d < 256 {
+    while d < end {
         if returns_at(order, taps, whole, d) {
             return true;
         }
@@ -125,22 +133,4 @@ pub fn check_taps(order: u32, taps: u32) -> u32
         return 4;
     }
     0
-}
-
-// The default taps of an order.
-pub fn default_taps(order: u32) -> DefaultTaps
-    ensures { λ r. ⌜ r ≡ defaultOutcome order ⌝ }
-{
-    match order {
-        2 | 3 | 4 | 6 | 7 | 15 => DefaultTaps::Taps(3),
-        5 | 11 => DefaultTaps::Taps(5),
-        8 => DefaultTaps::Taps(29),
-        9 => DefaultTaps::Taps(17),
-        10 => DefaultTaps::Taps(9),
-        12 => DefaultTaps::Taps(83),
-        13 => DefaultTaps::Taps(27),
-        14 => DefaultTaps::Taps(43),
-        16 => DefaultTaps::Taps(45),
-        _ => DefaultTaps::Refused(1),
-    }
 }

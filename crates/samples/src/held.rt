@@ -1,11 +1,11 @@
 // A player that a caller holds: lent to the register for a clock, and for a block.
-use register::Played;
-use register::Player;
-use register::Stepped;
-use register::clock::advance;
-use register::clock::fill;
+use player::Played;
+use player::Player;
+use player::Stepped;
+use player::clock::advance;
+use player::clock::fill;
 ghost use mathlib.Core.Path.{_≡_};
-ghost use Rattle.register.specs.Calls.{stepOutcome, playOutcome};
+ghost use Rattle.player.specs.Calls.{stepOutcome, playOutcome};
 
 pub fn clocked(player: Player) -> Stepped
     ensures { λ r. ⌜ r ≡ stepOutcome player ⌝ }

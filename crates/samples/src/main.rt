@@ -3,7 +3,7 @@ mod held;
 mod print;
 mod runs;
 
-use register::Player;
+use player::Player;
 use runs::blocks_run;
 use runs::clocks_run;
 use runs::new;

@@ -4,15 +4,15 @@ use crate::held::filled;
 use crate::print::mark;
 use crate::print::marks;
 use crate::print::refusal;
+use defaults::DefaultTaps;
+use defaults::taps::default_taps;
 use lines::print::line_end;
 use lines::print::number;
 use lines::print::word;
-use register::DefaultTaps;
-use register::NewPlayer;
-use register::Player;
-use register::Tick;
-use register::clock::new_player;
-use register::taps::default_taps;
+use player::NewPlayer;
+use player::Player;
+use player::Tick;
+use player::clock::new_player;
 ghost use Prim.Native.Nat.{_≤_, _<_};
 
 // A new player of the order's default taps; where there is none, one that every step refuses.

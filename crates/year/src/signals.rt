@@ -2,10 +2,10 @@
 use lines::print::line_end;
 use lines::print::number;
 use lines::print::word;
+use player::Player;
+use player::Tick;
+use player::clock::step_player;
 use records::Campaign;
-use register::Player;
-use register::Tick;
-use register::clock::step_player;
 ghost use Prim.Native.Nat.{_≤_};
 
 fn answer_line(name: &[u8], answer: u32) {

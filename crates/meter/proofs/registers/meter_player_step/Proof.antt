@@ -5,10 +5,10 @@ use Prim.Native.Nat.{ℕ}
 use lib.IntN.{ℤ}
 use mir.Syntax.{w32}
 use mir.Val.{toZ, ofZ}
-use Rattle.register.specs.Calls.{stepOutcome, tickNumber}
-use Rattle.register.specs.declared.Player.{Player}
-use Rattle.register.specs.declared.Stepped.{Stepped}
-use Rattle.register.specs.declared.Tick.the-variants as tick
+use Rattle.player.specs.Calls.{stepOutcome, tickNumber}
+use Rattle.player.specs.declared.Player.{Player}
+use Rattle.player.specs.declared.Stepped.{Stepped}
+use Rattle.player.specs.declared.Tick.the-variants as tick
 use borrow.Author.Needs.{needs}
 use Rattle.meter.proofs.registers.meter_player_step.Statement.{statement}
 use Rattle.meter.proofs.registers.meter_player_step.Tie as tie

@@ -50,8 +50,8 @@ fourth c = let a = c .before .before .args in passed-first (shapeChecks (a .orde
 -- the tags return after P and after no smaller divisor of it just where the windows first return after P
 same-return : (N taps : ℕ) → Shaped N taps → ((tag N taps (P N) ≡ 1) × (returnsEarly N taps ≡ false)) ↔ (period N taps ≡ P N)
 same-return N taps s = (
-  λ e. maximal-period N taps (s .tapped) .1 (maximal-by-tags N taps (s .tapped) .0 (by-divisors N taps (s .tapped) (s .most) .0 e)),
-  λ e. by-divisors N taps (s .tapped) (s .most) .1 (maximal-by-tags N taps (s .tapped) .1 (maximal-period N taps (s .tapped) .0 e)),
+  λ e. maximal-period N taps (s .tapped) .1 (maximal-by-tags N taps (s .tapped) .0 (by-divisors N taps (s .tapped) .0 e)),
+  λ e. by-divisors N taps (s .tapped) .1 (maximal-by-tags N taps (s .tapped) .1 (maximal-period N taps (s .tapped) .0 e)),
 )
 
 at-end : (c : tie.After-tag-at) → let a = c .before .before .before .before .args in c .tag-at .result ≡ tag (a .order) (a .taps) (P (a .order))

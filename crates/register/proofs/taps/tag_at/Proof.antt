@@ -17,14 +17,14 @@ split m k h =
     omega arith
 
 abbrev Inv-loop : tie.InvT-loop
-Inv-loop order taps m tag₀ k₀ tag k = (k ≤ 16) × (tag ≡ tagOf order taps (m / 2 ^ k))
+Inv-loop order taps m tag₀ k₀ tag k = (k ≤ order) × (tag ≡ tagOf order taps (m / 2 ^ k))
 
 abbrev μ-loop : tie.MeasureT-loop
 μ-loop order taps m tag₀ k₀ tag k = k
 
 loop-holds : tie.Need-loop-holds Inv-loop μ-loop
 unfolding tagOf
-loop-holds c = let a = c .args in (omega arith, sym (ap (tagOf (a .order) (a .taps)) (div-eq-of-lt {n = a .m} {m = 65536} (c .pre .2))))
+loop-holds c = let a = c .args in (omega arith, sym (ap (tagOf (a .order) (a .taps)) (div-eq-of-lt (c .pre .2))))
 
 sub-k : tie.Need-sub-k Inv-loop μ-loop
 sub-k c = omega arith
@@ -41,7 +41,7 @@ shr-step-by c = omega arith
 step-by-requires : tie.Need-step-by-requires Inv-loop μ-loop
 step-by-requires c κs =
     let s = c .before .before .before in
-    (s .pre .0, s .pre .1 .fits, rw (c .join .ensures) (joined-lt (s .args .order) (s .args .taps) (s .pre .1) (c .before .before .loop .tag) (c .before .before .loop .tag) (s .args .order) (now-lt (c .before))), mod-lt _ (zero-lt-suc 1))
+    (s .pre .0, s .pre .1 .fits, rw (c .join .ensures) (joined-lt (s .args .order) (s .args .taps) (s .pre .1) (c .before .before .loop .tag) (c .before .before .loop .tag) (s .args .order) (now-lt (c .before))), omega arith)
 
 loop-less : tie.Need-loop-less Inv-loop μ-loop
 loop-less c = omega arith

@@ -38,20 +38,20 @@ use denote.Triple.Spec.{Meets, tripleOf}
 use denote.Triple.Table.{entered, cited}
 use denote.Triple.Walked.{says, Stays, stay-none, walkOf, goes-none, Walks, ends-at, walked, walk-meets}
 use denote.Exit.{yes}
-use Rattle.register.specs.declared.Player.{Player}
-use Rattle.register.specs.declared.Tick.{Tick}
-use Rattle.register.specs.declared.Stepped.{Stepped}
-use Rattle.register.specs.Calls.{stepOutcome}
-use Rattle.register.proofs.Player as P
-use Rattle.register.proofs.Player.Laws as P′
-use Rattle.register.proofs.Tick as E
-use Rattle.register.proofs.Tick.Laws as E′
-use Rattle.register.proofs.Stepped as S
-use Rattle.register.proofs.Stepped.Laws as S′
-use Rattle.register.proofs.clock.advance as advance
-use Rattle.register.proofs.clock.advance.Symbol as advance-def
-use Rattle.register.proofs.clock.advance.Symbol.{name as #register·clock·advance}
-use Rattle.register.proofs.clock.advance.Met as advance-thm
+use Rattle.player.specs.declared.Player.{Player}
+use Rattle.player.specs.declared.Tick.{Tick}
+use Rattle.player.specs.declared.Stepped.{Stepped}
+use Rattle.player.specs.Calls.{stepOutcome}
+use Rattle.player.proofs.Player as P
+use Rattle.player.proofs.Player.Laws as P′
+use Rattle.player.proofs.Tick as E
+use Rattle.player.proofs.Tick.Laws as E′
+use Rattle.player.proofs.Stepped as S
+use Rattle.player.proofs.Stepped.Laws as S′
+use Rattle.player.proofs.clock.advance as advance
+use Rattle.player.proofs.clock.advance.Symbol as advance-def
+use Rattle.player.proofs.clock.advance.Symbol.{name as #register·clock·advance}
+use Rattle.player.proofs.clock.advance.Met as advance-thm
 use Rattle.samples.proofs.Lies.{lies-in, lies-out}
 use Rattle.samples.proofs.held.clocked.Key.{name as #samples·held·clocked}
 use Rattle.samples.proofs.held.clocked as clocked

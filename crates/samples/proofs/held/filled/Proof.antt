@@ -44,17 +44,17 @@ use denote.Triple.Spec.{Meets, tripleOf}
 use denote.Triple.Table.{entered, cited}
 use denote.Triple.Walked.{says, Stays, stay-none, gave-slice, walkOf, goes-none, goes-gave-slice, Walks, ends-at, walked, walk-meets}
 use denote.Exit.{yes}
-use Rattle.register.specs.declared.Player.{Player}
-use Rattle.register.specs.declared.Played.{Played}
-use Rattle.register.specs.Calls.{playOutcome}
-use Rattle.register.proofs.Player as P
-use Rattle.register.proofs.Player.Laws as P′
-use Rattle.register.proofs.Played as D
-use Rattle.register.proofs.Played.Laws as D′
-use Rattle.register.proofs.clock.fill as fill
-use Rattle.register.proofs.clock.fill.Symbol as fill-def
-use Rattle.register.proofs.clock.fill.Symbol.{name as #register·clock·fill}
-use Rattle.register.proofs.clock.fill.Met as fill-thm
+use Rattle.player.specs.declared.Player.{Player}
+use Rattle.player.specs.declared.Played.{Played}
+use Rattle.player.specs.Calls.{playOutcome}
+use Rattle.player.proofs.Player as P
+use Rattle.player.proofs.Player.Laws as P′
+use Rattle.player.proofs.Played as D
+use Rattle.player.proofs.Played.Laws as D′
+use Rattle.player.proofs.clock.fill as fill
+use Rattle.player.proofs.clock.fill.Symbol as fill-def
+use Rattle.player.proofs.clock.fill.Symbol.{name as #register·clock·fill}
+use Rattle.player.proofs.clock.fill.Met as fill-thm
 use Rattle.samples.proofs.Lies.{lies-in, lies-out}
 use Rattle.samples.proofs.held.filled.Key.{name as #samples·held·filled}
 use Rattle.samples.proofs.held.filled as filled

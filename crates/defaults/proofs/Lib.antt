@@ -1,0 +1,3 @@
+-- The laws of the default taps.
+pub mod Certificate
+mod Defaults
