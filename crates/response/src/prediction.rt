@@ -30,6 +30,38 @@ fn predict_in(order: u32, taps: u32, h: &[i32], out: &mut [i32], room: &mut [i64
     0
 }
 
+// In a room of 4,096: clearing one for every order takes longer than a short period does.
+fn predict_short(order: u32, taps: u32, h: &[i32], out: &mut [i32]) -> u32
+    requires { ⌜ order ≤ 12 ⌝ }
+    requires { ⌜ (Accepted order taps) × (length (now h) ≡ P order) × (P order ≤ length (now out)) ⌝ }
+    requires { ⌜ someOut (length (now h)) (at (now h)) ≡ false ⌝ }
+    ensures { λ r. ⌜ (r, now (out .exit)) ≡ heardOutcome order taps (now (h .entry)) (now (out .entry)) ⌝ }
+{
+    let mut room: [i64; 4096] = [0; 4096];
+    predict_in(order, taps, h, out, &mut room)
+}
+
+fn predict_long(order: u32, taps: u32, h: &[i32], out: &mut [i32]) -> u32
+    requires { ⌜ (Accepted order taps) × (length (now h) ≡ P order) × (P order ≤ length (now out)) ⌝ }
+    requires { ⌜ someOut (length (now h)) (at (now h)) ≡ false ⌝ }
+    ensures { λ r. ⌜ (r, now (out .exit)) ≡ heardOutcome order taps (now (h .entry)) (now (out .entry)) ⌝ }
+{
+    let mut room: [i64; 65536] = [0; 65536];
+    predict_in(order, taps, h, out, &mut room)
+}
+
+// In a room of its own.
+fn predict_alone(order: u32, taps: u32, h: &[i32], out: &mut [i32]) -> u32
+    requires { ⌜ (Accepted order taps) × (length (now h) ≡ P order) × (P order ≤ length (now out)) ⌝ }
+    requires { ⌜ someOut (length (now h)) (at (now h)) ≡ false ⌝ }
+    ensures { λ r. ⌜ (r, now (out .exit)) ≡ heardOutcome order taps (now (h .entry)) (now (out .entry)) ⌝ }
+{
+    if order <= 12 {
+        return predict_short(order, taps, h, out);
+    }
+    predict_long(order, taps, h, out)
+}
+
 // y(j) at every place: 0, or the refusal.
 pub fn predict(order: u32, taps: u32, h: &[i32], out: &mut [i32]) -> u32
     ensures { λ r. ⌜ (r, now (out .exit)) ≡ predictionOutcome order taps (now (h .entry)) (now (out .entry)) ⌝ }
@@ -48,6 +80,5 @@ pub fn predict(order: u32, taps: u32, h: &[i32], out: &mut [i32]) -> u32
     if some_out(h) {
         return 7;
     }
-    let mut room: [i64; 65536] = [0; 65536];
-    predict_in(order, taps, h, out, &mut room)
+    predict_alone(order, taps, h, out)
 }

@@ -51,9 +51,9 @@ use Rattle.player.proofs.Played as D
 use Rattle.player.proofs.Played.Laws as D′
 use Rattle.player.proofs.clock.play as play
 use Rattle.player.proofs.clock.play.Symbol as play-def
-use Rattle.player.proofs.clock.play.Symbol.{name as #register·clock·play}
+use Rattle.player.proofs.clock.play.Symbol.{name as #player·clock·play}
 use Rattle.player.proofs.clock.play.Met as play-thm
-use Rattle.player.proofs.clock.fill.Key.{name as #register·clock·fill}
+use Rattle.player.proofs.clock.fill.Key.{name as #player·clock·fill}
 use Rattle.player.proofs.clock.fill as fill
 use Rattle.player.proofs.clock.fill.Statement as stated
 use Rattle.player.proofs.clock.fill.Code as code
@@ -120,7 +120,7 @@ module _ {M : Type 1} (𝓤 : URA M) (H : Heap 𝓤) (A : Atoms 𝓤) (W : Given
       qed W ((‵ (flft κ′ q′) ⊛ ‵ ftrue) ∷ ‵ (MutSlice (named 0) κ′ i8 .own signs (s ∷ [])) ∷ []) ∵ nothing ! $ move ! (2 ∷ 0 ∷ []) $ fjoin ! $
       owned ! P.the-row (Is P.the-row) (LL.makes P.the-type P′.the-plain 𝓤 H A) h _ g $ fjoin ! $ move ! (1 ∷ 0 ∷ []) $ join ! $ frame ! $ done !
 
-  module _ (C : Calls 𝓤 H) (Λ : Loops 𝓤 H) (fm : FmC 𝓤 H (W .laws) C) (known : Triple 𝓤 (C #register·clock·play) (Play 𝓤 H A at-mem run)) where
+  module _ (C : Calls 𝓤 H) (Λ : Loops 𝓤 H) (fm : FmC 𝓤 H (W .laws) C) (known : Triple 𝓤 (C #player·clock·play) (Play 𝓤 H A at-mem run)) where
     walk : Room i8 (length ys) → ent 𝓤 (onEntry 𝓤 H A fill.signature (κ, (κ′, tt)) (q, (q′, tt)) a vals) (WpFn 𝓤 H C Λ code.function (vptr b o ∷ s ∷ []) Post)
     walk room =
         qed W ((‵ (flft κ q) ⊛ (‵ (flft κ′ q′) ⊛ ‵ ftrue)) ∷ ‵ (owns (MutRef (named 0) κ P.the-row ∷ MutSlice (named 1) κ′ i8 ∷ []) a vals) ∷ []) ∵ split ! $ move ! (2 ∷ []) $ fsplit ! $ fsplit3 ! $ drop ! $ move ! (2 ∷ []) $ fsplit ! $ move ! (2 ∷ 3 ∷ 4 ∷ 0 ∷ 5 ∷ []) $
@@ -155,7 +155,7 @@ module _ {M : Type 1} (𝓤 : URA M) (H : Heap 𝓤) (A : Atoms 𝓤) (W : Given
         keep ! (0 ∷ 1 ∷ 2 ∷ 4 ∷ 5 ∷ []) $ by ! (exits r v (zs .1 .0) is e l))))))))))))))))
 
 module _ {M : Type 1} (𝓤 : URA M) (H : Heap 𝓤) (A : Atoms 𝓤) (W : Given 𝓤 H A) (at-mem : Memory → SProp 𝓤) (run : Routine → Fun 𝓤) where
-  fill-walks : (C : Calls 𝓤 H) (Λ : Loops 𝓤 H) → FmC 𝓤 H (W .laws) C → Triple 𝓤 (C #register·clock·play) (Play 𝓤 H A at-mem run)
+  fill-walks : (C : Calls 𝓤 H) (Λ : Loops 𝓤 H) → FmC 𝓤 H (W .laws) C → Triple 𝓤 (C #player·clock·play) (Play 𝓤 H A at-mem run)
       → Walks 𝓤 H A fill.ended stayed (WpFn 𝓤 H C Λ code.function) (fill.clauses 𝓤 H A at-mem run)
   fill-walks C Λ fm known = walked 𝓤 H A fill.ended stayed (fill.clauses 𝓤 H A at-mem run) (WpFn 𝓤 H C Λ code.function)
       (λ κs. (ptr-vals, (slice-vals, tt))) (λ κs. (mut-tells (named 0) (κs .0) P.the-row, (mut-slice-tells (named 1) (κs .1 .0) i8, tt)))
@@ -165,7 +165,7 @@ module _ {M : Type 1} (𝓤 : URA M) (H : Heap 𝓤) (A : Atoms 𝓤) (W : Given
   goes : AllGo 𝓤 H A W 2 (fill.signature .params) (fill.ended .kept) stayed
   goes = (goes-ref 𝓤 H A W 2 0 tt (plain (λ _. P.the-row)), (goes-gave-slice 𝓤 H A W 2 1 tt (plain (λ _. i8)), tt))
 
-fill-meets : {M : Type 1} (𝓤 : URA M) (H : Heap 𝓤) (A : Atoms 𝓤) (W : Given 𝓤 H A) (at-mem : Memory → SProp 𝓤) (run : Routine → Fun 𝓤) (𝓣 : Tables 𝓤 H) → Triple 𝓤 (𝓣 .C #register·clock·play) (Play 𝓤 H A at-mem run)
+fill-meets : {M : Type 1} (𝓤 : URA M) (H : Heap 𝓤) (A : Atoms 𝓤) (W : Given 𝓤 H A) (at-mem : Memory → SProp 𝓤) (run : Routine → Fun 𝓤) (𝓣 : Tables 𝓤 H) → Triple 𝓤 (𝓣 .C #player·clock·play) (Play 𝓤 H A at-mem run)
     → Meets 𝓤 H A fill.signature (WpFn 𝓤 H (𝓣 .C) (𝓣 .Λ) code.function) (fill.spec 𝓤 H A at-mem run)
 fill-meets 𝓤 H A W at-mem run 𝓣 known = walk-meets 𝓤 H A fill.ended stayed W (goes 𝓤 H A W at-mem run) (fill.clauses 𝓤 H A at-mem run) (WpFn 𝓤 H (𝓣 .C) (𝓣 .Λ) code.function) (WpFn-mono 𝓤 H (W .laws) 𝓣 code.function)
     (fill-walks 𝓤 H A W at-mem run (𝓣 .C) (𝓣 .Λ) (fmOf 𝓤 H (W .laws) 𝓣) known)
@@ -174,6 +174,6 @@ pub fill-spec : {M : Type 1} → stated.statement M
 unfolding code.routine tablesOf
 fill-spec 𝓤 H 𝓜 𝓖 𝓡 =
     entered 𝓤 H (tripleOf 𝓤 H (𝓖 .A) fill.signature (fill.spec 𝓤 H (𝓖 .A) (𝓜 .mem) (𝓡 .run)))
-    (tables 𝓤 H 𝓜 𝓡 code.env .C) (tables 𝓤 H 𝓜 𝓡 code.env .Λ) #register·clock·fill code.function (code.unfolded 𝓤 H 𝓜 𝓡)
+    (tables 𝓤 H 𝓜 𝓡 code.env .C) (tables 𝓤 H 𝓜 𝓡 code.env .Λ) #player·clock·fill code.function (code.unfolded 𝓤 H 𝓜 𝓡)
     (fill-meets 𝓤 H (𝓖 .A) (givenOf 𝓤 H 𝓜 𝓖) (𝓜 .mem) (𝓡 .run) (tablesOf 𝓤 H 𝓜 (tables 𝓤 H 𝓜 𝓡 code.env))
-    (cited 𝓤 H (Play 𝓤 H (𝓖 .A) (𝓜 .mem) (𝓡 .run)) 𝓜 𝓡 code.env #register·clock·play play-def.routine code.calls-player·clock·play (play-thm.met 𝓤 H 𝓜 𝓖 𝓡)))
+    (cited 𝓤 H (Play 𝓤 H (𝓖 .A) (𝓜 .mem) (𝓡 .run)) 𝓜 𝓡 code.env #player·clock·play play-def.routine code.calls-player·clock·play (play-thm.met 𝓤 H 𝓜 𝓖 𝓡)))

@@ -115,16 +115,13 @@ returns-4 c =
     sym (seven (a .order) (a .taps) (a .h .now) (a .out .now) _ (b .before .check-taps .ensures) (b .if1 .left) (long d) (wide f)
     (sym (c .before .some-out .ensures) ∙ c .if4 .taken))
 
-slice-aggregate-predict-in : tie.Need-slice-aggregate-predict-in
-slice-aggregate-predict-in c = search needs
-
-predict-in-requires : tie.Need-predict-in-requires
-predict-in-requires c κs =
-    let g = c .before .before in
+predict-alone-requires : tie.Need-predict-alone-requires
+predict-alone-requires c κs =
+    let g = c .before in
     let f = g .before .before in
     let d = f .before in
     let b = d .before .before in (
-      (accepted b, long d, wide f, omega (arith, small (accepted b .shaped .most))),
+      (accepted b, long d, wide f),
       sym (g .before .some-out .ensures) ∙ g .if4 .left,
     )
 
@@ -133,12 +130,12 @@ same-length c = search needs
 
 returns-5 : tie.Need-returns-5
 returns-5 c =
-    let g = c .before .before .before .before .before in
+    let g = c .before .before .before in
     let f = g .before .before in
     let d = f .before in
     let b = d .before .before in
     let a = b .before .before .args in
-    c .before .before .predict-in .ensures
+    c .before .predict-alone .ensures
     ∙ sym (left (a .order) (a .taps) (a .h .now) (a .out .now) _ (b .before .check-taps .ensures) (b .if1 .left) (long d) (wide f)
     (sym (g .before .some-out .ensures) ∙ g .if4 .left))
 
@@ -154,7 +151,6 @@ predict-spec =
     returns-3
     some-out-requires
     returns-4
-    slice-aggregate-predict-in
-    predict-in-requires
+    predict-alone-requires
     same-length
     returns-5)

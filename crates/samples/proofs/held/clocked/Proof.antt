@@ -50,7 +50,7 @@ use Rattle.player.proofs.Stepped as S
 use Rattle.player.proofs.Stepped.Laws as S′
 use Rattle.player.proofs.clock.advance as advance
 use Rattle.player.proofs.clock.advance.Symbol as advance-def
-use Rattle.player.proofs.clock.advance.Symbol.{name as #register·clock·advance}
+use Rattle.player.proofs.clock.advance.Symbol.{name as #player·clock·advance}
 use Rattle.player.proofs.clock.advance.Met as advance-thm
 use Rattle.samples.proofs.Lies.{lies-in, lies-out}
 use Rattle.samples.proofs.held.clocked.Key.{name as #samples·held·clocked}
@@ -101,7 +101,7 @@ module _ {M : Type 1} (𝓤 : URA M) (H : Heap 𝓤) (A : Atoms 𝓤) (W : Given
       qed W (‵ (flft (ν ∷ []) fullShare) ∷ ‵ (MutRef (named 0) (ν ∷ []) P.the-row .own (ref l δ y) (vptr l 0 ∷ [])) ∷ []) ∵
       nothing ! $ move ! (1 ∷ 0 ∷ []) $ join ! $ move ! (1 ∷ []) $ nothing ! $ move ! (1 ∷ 0 ∷ []) $ join ! $ move ! (1 ∷ 0 ∷ []) $ join ! $ frame ! $ done !
 
-  module _ (C : Calls 𝓤 H) (Λ : Loops 𝓤 H) (fm : FmC 𝓤 H (W .laws) C) (known : Triple 𝓤 (C #register·clock·advance) (Advance 𝓤 H A at-mem run)) where
+  module _ (C : Calls 𝓤 H) (Λ : Loops 𝓤 H) (fm : FmC 𝓤 H (W .laws) C) (known : Triple 𝓤 (C #player·clock·advance) (Advance 𝓤 H A at-mem run)) where
     walk : ent 𝓤 (onEntry 𝓤 H A clocked.signature tt tt (h, tt) (player h ∷ [], tt)) (WpFn 𝓤 H C Λ code.function (player h ∷ []) Post)
     walk =
         qed W (‵ ftrue ∷ ‵ (owns (P.the-row ∷ []) (h, tt) (player h ∷ [], tt)) ∷ []) ∵ enter ! C Λ code.function (player h ∷ []) _ $
@@ -135,12 +135,12 @@ module _ {M : Type 1} (𝓤 : URA M) (H : Heap 𝓤) (A : Atoms 𝓤) (W : Given
         keep ! [] $ by ! (exits (made t (zs .0)) (made-is t (zs .0) v is g) (sym e)))))))))))))))))
 
 module _ {M : Type 1} (𝓤 : URA M) (H : Heap 𝓤) (A : Atoms 𝓤) (W : Given 𝓤 H A) (at-mem : Memory → SProp 𝓤) (run : Routine → Fun 𝓤) where
-  clocked-walks : (C : Calls 𝓤 H) (Λ : Loops 𝓤 H) → FmC 𝓤 H (W .laws) C → Triple 𝓤 (C #register·clock·advance) (Advance 𝓤 H A at-mem run)
+  clocked-walks : (C : Calls 𝓤 H) (Λ : Loops 𝓤 H) → FmC 𝓤 H (W .laws) C → Triple 𝓤 (C #player·clock·advance) (Advance 𝓤 H A at-mem run)
       → Walks 𝓤 H A clocked.ended stayed (WpFn 𝓤 H C Λ code.function) (clocked.clauses 𝓤 H A at-mem run)
   clocked-walks C Λ fm known = walked 𝓤 H A clocked.ended stayed (clocked.clauses 𝓤 H A at-mem run) (WpFn 𝓤 H C Λ code.function) (λ κs. (LL.vals P.the-type P′.the-laws, tt)) (λ κs. (LL.tells P.the-type P′.the-laws, tt))
       (λ κs qs bounds a g are. via 𝓤 _ (fst∗ 𝓤 _ (emp 𝓤)) (walk 𝓤 H A W at-mem run (a .0) (are .0) C Λ fm known))
 
-clocked-meets : {M : Type 1} (𝓤 : URA M) (H : Heap 𝓤) (A : Atoms 𝓤) (W : Given 𝓤 H A) (at-mem : Memory → SProp 𝓤) (run : Routine → Fun 𝓤) (𝓣 : Tables 𝓤 H) → Triple 𝓤 (𝓣 .C #register·clock·advance) (Advance 𝓤 H A at-mem run)
+clocked-meets : {M : Type 1} (𝓤 : URA M) (H : Heap 𝓤) (A : Atoms 𝓤) (W : Given 𝓤 H A) (at-mem : Memory → SProp 𝓤) (run : Routine → Fun 𝓤) (𝓣 : Tables 𝓤 H) → Triple 𝓤 (𝓣 .C #player·clock·advance) (Advance 𝓤 H A at-mem run)
     → Meets 𝓤 H A clocked.signature (WpFn 𝓤 H (𝓣 .C) (𝓣 .Λ) code.function) (clocked.spec 𝓤 H A at-mem run)
 clocked-meets 𝓤 H A W at-mem run 𝓣 known = walk-meets 𝓤 H A clocked.ended stayed W (goes-none 𝓤 H A W 0 (λ _. P.the-row) yes (λ κs x f. refl), tt) (clocked.clauses 𝓤 H A at-mem run) (WpFn 𝓤 H (𝓣 .C) (𝓣 .Λ) code.function) (WpFn-mono 𝓤 H (W .laws) 𝓣 code.function)
     (clocked-walks 𝓤 H A W at-mem run (𝓣 .C) (𝓣 .Λ) (fmOf 𝓤 H (W .laws) 𝓣) known)
@@ -151,4 +151,4 @@ clocked-spec 𝓤 H 𝓜 𝓖 𝓡 =
     entered 𝓤 H (tripleOf 𝓤 H (𝓖 .A) clocked.signature (clocked.spec 𝓤 H (𝓖 .A) (𝓜 .mem) (𝓡 .run)))
     (tables 𝓤 H 𝓜 𝓡 code.env .C) (tables 𝓤 H 𝓜 𝓡 code.env .Λ) #samples·held·clocked code.function (code.unfolded 𝓤 H 𝓜 𝓡)
     (clocked-meets 𝓤 H (𝓖 .A) (givenOf 𝓤 H 𝓜 𝓖) (𝓜 .mem) (𝓡 .run) (tablesOf 𝓤 H 𝓜 (tables 𝓤 H 𝓜 𝓡 code.env))
-    (cited 𝓤 H (Advance 𝓤 H (𝓖 .A) (𝓜 .mem) (𝓡 .run)) 𝓜 𝓡 code.env #register·clock·advance advance-def.routine code.calls-player·clock·advance (advance-thm.met 𝓤 H 𝓜 𝓖 𝓡)))
+    (cited 𝓤 H (Advance 𝓤 H (𝓖 .A) (𝓜 .mem) (𝓡 .run)) 𝓜 𝓡 code.env #player·clock·advance advance-def.routine code.calls-player·clock·advance (advance-thm.met 𝓤 H 𝓜 𝓖 𝓡)))

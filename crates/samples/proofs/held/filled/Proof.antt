@@ -53,7 +53,7 @@ use Rattle.player.proofs.Played as D
 use Rattle.player.proofs.Played.Laws as D′
 use Rattle.player.proofs.clock.fill as fill
 use Rattle.player.proofs.clock.fill.Symbol as fill-def
-use Rattle.player.proofs.clock.fill.Symbol.{name as #register·clock·fill}
+use Rattle.player.proofs.clock.fill.Symbol.{name as #player·clock·fill}
 use Rattle.player.proofs.clock.fill.Met as fill-thm
 use Rattle.samples.proofs.Lies.{lies-in, lies-out}
 use Rattle.samples.proofs.held.filled.Key.{name as #samples·held·filled}
@@ -122,7 +122,7 @@ module _ {M : Type 1} (𝓤 : URA M) (H : Heap 𝓤) (A : Atoms 𝓤) (W : Given
       qed W ((‵ (flft (ν ∷ []) fullShare) ⊛ (‵ (flft κ q) ⊛ ‵ ftrue)) ∷ ‵ (MutRef (named 0) (ν ∷ []) P.the-row .own (ref l δ h) (vptr l 0 ∷ [])) ∷ ‵ (MutSlice (named 0) κ i8 .own signs (s ∷ [])) ∷ []) ∵
       nothing ! $ move ! (3 ∷ 0 ∷ []) $ fjoin ! $ move ! (2 ∷ 0 ∷ []) $ fjoin ! $ move ! (1 ∷ 0 ∷ []) $ join ! $ frame ! $ done !
 
-  module _ (C : Calls 𝓤 H) (Λ : Loops 𝓤 H) (fm : FmC 𝓤 H (W .laws) C) (known : Triple 𝓤 (C #register·clock·fill) (Fill 𝓤 H A at-mem run)) where
+  module _ (C : Calls 𝓤 H) (Λ : Loops 𝓤 H) (fm : FmC 𝓤 H (W .laws) C) (known : Triple 𝓤 (C #player·clock·fill) (Fill 𝓤 H A at-mem run)) where
     walk : Room i8 (length ys) → ent 𝓤 (onEntry 𝓤 H A filled.signature (κ, tt) (q, tt) a vals) (WpFn 𝓤 H C Λ code.function (player h ∷ s ∷ []) Post)
     walk room =
         qed W ((‵ (flft κ q) ⊛ ‵ ftrue) ∷ ‵ (owns (P.the-row ∷ MutSlice (named 0) κ i8 ∷ []) a vals) ∷ []) ∵ enter ! C Λ code.function (player h ∷ s ∷ []) _ $
@@ -162,14 +162,14 @@ module _ {M : Type 1} (𝓤 : URA M) (H : Heap 𝓤) (A : Atoms 𝓤) (W : Given
         keep ! (1 ∷ 2 ∷ []) $ by ! (exits (made n (zs .0)) (zs .1 .0) (made-is n (zs .0) v is g) (sym e) l))))))))))))))))))))
 
 module _ {M : Type 1} (𝓤 : URA M) (H : Heap 𝓤) (A : Atoms 𝓤) (W : Given 𝓤 H A) (at-mem : Memory → SProp 𝓤) (run : Routine → Fun 𝓤) where
-  filled-walks : (C : Calls 𝓤 H) (Λ : Loops 𝓤 H) → FmC 𝓤 H (W .laws) C → Triple 𝓤 (C #register·clock·fill) (Fill 𝓤 H A at-mem run)
+  filled-walks : (C : Calls 𝓤 H) (Λ : Loops 𝓤 H) → FmC 𝓤 H (W .laws) C → Triple 𝓤 (C #player·clock·fill) (Fill 𝓤 H A at-mem run)
       → Walks 𝓤 H A filled.ended stayed (WpFn 𝓤 H C Λ code.function) (filled.clauses 𝓤 H A at-mem run)
   filled-walks C Λ fm known = walked 𝓤 H A filled.ended stayed (filled.clauses 𝓤 H A at-mem run) (WpFn 𝓤 H C Λ code.function)
       (λ κs. (LL.vals P.the-type P′.the-laws, (slice-vals, tt))) (λ κs. (LL.tells P.the-type P′.the-laws, (mut-slice-tells (named 0) (κs .0) i8, tt)))
       (λ κs qs bounds a g are. via 𝓤 _ (fst∗ 𝓤 _ (emp 𝓤))
       (walk 𝓤 H A W at-mem run (κs .0) (qs .0) (a .0) (are .0) (a .1 .0 .ptr .0) (a .1 .0 .ptr .1) (a .1 .0 .name) (a .1 .0 .now) C Λ fm known (are .1 .0 .0 .1)))
 
-filled-meets : {M : Type 1} (𝓤 : URA M) (H : Heap 𝓤) (A : Atoms 𝓤) (W : Given 𝓤 H A) (at-mem : Memory → SProp 𝓤) (run : Routine → Fun 𝓤) (𝓣 : Tables 𝓤 H) → Triple 𝓤 (𝓣 .C #register·clock·fill) (Fill 𝓤 H A at-mem run)
+filled-meets : {M : Type 1} (𝓤 : URA M) (H : Heap 𝓤) (A : Atoms 𝓤) (W : Given 𝓤 H A) (at-mem : Memory → SProp 𝓤) (run : Routine → Fun 𝓤) (𝓣 : Tables 𝓤 H) → Triple 𝓤 (𝓣 .C #player·clock·fill) (Fill 𝓤 H A at-mem run)
     → Meets 𝓤 H A filled.signature (WpFn 𝓤 H (𝓣 .C) (𝓣 .Λ) code.function) (filled.spec 𝓤 H A at-mem run)
 filled-meets 𝓤 H A W at-mem run 𝓣 known =
     walk-meets 𝓤 H A filled.ended stayed W (goes-none 𝓤 H A W 1 (λ _. P.the-row) yes (λ κs x f. refl), (goes-gave-slice 𝓤 H A W 1 0 tt (plain (λ _. i8)), tt)) (filled.clauses 𝓤 H A at-mem run)
@@ -181,4 +181,4 @@ filled-spec 𝓤 H 𝓜 𝓖 𝓡 =
     entered 𝓤 H (tripleOf 𝓤 H (𝓖 .A) filled.signature (filled.spec 𝓤 H (𝓖 .A) (𝓜 .mem) (𝓡 .run)))
     (tables 𝓤 H 𝓜 𝓡 code.env .C) (tables 𝓤 H 𝓜 𝓡 code.env .Λ) #samples·held·filled code.function (code.unfolded 𝓤 H 𝓜 𝓡)
     (filled-meets 𝓤 H (𝓖 .A) (givenOf 𝓤 H 𝓜 𝓖) (𝓜 .mem) (𝓡 .run) (tablesOf 𝓤 H 𝓜 (tables 𝓤 H 𝓜 𝓡 code.env))
-    (cited 𝓤 H (Fill 𝓤 H (𝓖 .A) (𝓜 .mem) (𝓡 .run)) 𝓜 𝓡 code.env #register·clock·fill fill-def.routine code.calls-player·clock·fill (fill-thm.met 𝓤 H 𝓜 𝓖 𝓡)))
+    (cited 𝓤 H (Fill 𝓤 H (𝓖 .A) (𝓜 .mem) (𝓡 .run)) 𝓜 𝓡 code.env #player·clock·fill fill-def.routine code.calls-player·clock·fill (fill-thm.met 𝓤 H 𝓜 𝓖 𝓡)))
