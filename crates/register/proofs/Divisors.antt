@@ -1,15 +1,15 @@
 -- The tags of two delays join to the tag of both: so the tag of any delay is got by doubling. And the tags first return after P steps exactly
--- where they return after P and after no smaller divisor of P. Assumes nothing.
+-- where they return after P and after no P over a prime. Assumes nothing.
 use mathlib.Core.Path.{_≡_, refl, sym, ap, ap₂, _∙_}
-use mathlib.Core.Logic.{_↔_}
+use mathlib.Core.Logic.{_↔_, inl, inr}
 use mathlib.Core.Bool.{Bool, true, false, true≢false, _&&_, _||_}
 use Prim.Native.Nat.{ℕ, zero, suc, _+_, _-_, _*_, _/_, _%_, _^_, _≤_, _<_}
-use native.Mathlib.Nat.{mod-lt, suc-add, add-suc, add-zero, zero-add, zero-mul, one-mul, suc-mul, mod-add-mod, mul-le-mul, div-add-mod', mul-comm, mod-eq-of-lt, le-of-lt, div-lt-self, mul-div-cancel, mul-mod-left}
+use native.Mathlib.Nat.{mod-lt, suc-add, add-suc, add-zero, zero-add, zero-mul, one-mul, suc-mul, mod-add-mod, mul-le-mul, div-add-mod', mul-comm, mul-assoc, mod-eq-of-lt, le-of-lt, div-lt-self, div-div-eq-div-mul, mul-mod-left}
 use native.Mathlib.Decide.{ℕ-discrete, decLt}
 use native.Mathlib.Omega.{arith}
-use borrow.Author.Tests.{eqb-true, eqb-false, eq-eqb, ne-eqb, lt-ltb, ltb-true}
+use borrow.Author.Tests.{eqb-true, eqb-false, eq-eqb, ne-eqb}
 use lib.Bits.{xor-lt}
-use lib.Dec.{eqb, ltb}
+use lib.Dec.{eqb}
 use lib.Pow.{pow-pos, pow-add, pow-mono}
 use Rattle.sums.specs.Sum.{total}
 use Rattle.sums.specs.Lists.{some}
@@ -18,9 +18,10 @@ use Rattle.sums.proofs.Seek.{First}
 use Rattle.sums.proofs.Somewhere.{some-none, some-at}
 use Rattle.sums.proofs.Sum.{total-ext}
 use Rattle.register.specs.Register.{P, bitOf, dot, step, tag-step, tag, Tapped}
-use Rattle.register.specs.Doubling.{moved, joined, half, returnsAt, returnsEarly}
+use Rattle.register.specs.Doubling.{moved, joined, prime, half, returnsAt, returnsEarly}
 use Rattle.register.proofs.Dot.{dot-lt, dot-zero, dot-one, dot-xor, dot-times}
 use Rattle.register.proofs.Windows.{step-lt, tag-lt, tag-step-lt, adjoint, bit-mul}
+use Rattle.register.proofs.Factors.{whole, times, proper, other, back, one-small, smaller, Factor, prime-large, prime-or}
 use Rattle.register.proofs.Recurrence.{bit-zero, bit-lt, dot-total, slide}
 use Rattle.register.proofs.TagReturn.{tagPeriod, same-dots, long, sought}
 
@@ -38,6 +39,13 @@ dot-bits (suc (suc s)) d hs hd = absurd (omega arith)
 and-off : (a b : Bool) → (a ≡ true → b ≡ false) → a && b ≡ false
 and-off true b h = h refl
 and-off false b h = refl
+
+or-first : {a : Bool} (b : Bool) → a ≡ true → a || b ≡ true
+or-first b p = ap (λ x. x || b) p
+
+or-second : (a : Bool) {b : Bool} → b ≡ true → a || b ≡ true
+or-second true p = refl
+or-second false p = p
 
 module _ (N taps : ℕ) (t : Tapped N taps) where
   walk-lt : (m w : ℕ) → w < 2 ^ N → walk N taps m w < 2 ^ N
@@ -138,70 +146,96 @@ module _ (N taps : ℕ) (t : Tapped N taps) where
       let e : N ≤ h + h = omega arith in
       omega (arith, pow-mono e, pow-add 2 h h)
 
-  -- P is some times each of its divisors
-  whole : (d : ℕ) → P N % d ≡ 0 → P N / d * d ≡ P N
-  whole d z = omega (arith, div-add-mod' (P N) d)
+  some-steps : 0 < P N
+  some-steps = omega (arith, long N taps t)
 
-  times : (d : ℕ) → P N % d ≡ 0 → 0 < P N / d
-  times d z = elim (ℕ-discrete (P N / d) 0) [
-    | yes q ↦ absurd (omega (arith, sym (whole d z) ∙ ap (λ x. x * d) q ∙ zero-mul d, long N taps t))
-    | no q ↦ omega arith
+  -- a return after a divisor of P that P is a prime times
+  record Home : Type 0 where
+    it : ℕ
+    some : 0 < it
+    divides : P N % it ≡ 0
+    home : tag N taps it ≡ 1
+    over : prime (P N / it) ≡ true
+
+  -- where P over a divisor has a factor, they return after that many times the divisor too
+  climb : (fuel d : ℕ) → P N / d ≤ fuel → 0 < d → d < P N → P N % d ≡ 0 → tag N taps d ≡ 1 → Home
+  unfolding tag
+  climb zero d h p l z e = absurd (omega (arith, times (P N) d some-steps z))
+  climb (suc fuel) d h p l z e = elim (prime-or (P N / d) (proper (P N) d some-steps z l)) [
+    | inl q ↦ record { it = d; some = p; divides = z; home = e; over = q }
+    | inr f ↦ climb fuel (f .it * d) (fewer f) (positive f) (smaller (P N) (f .it * d) some-steps (goes f) (left f)) (goes f) (again f)
   ]
+    where
+      most : 0 < P N / d
+      most = times (P N) d some-steps z
+
+      -- P over the longer divisor
+      quotient : (f : Factor (P N / d)) → P N / (f .it * d) ≡ P N / d / f .it
+      quotient f = ap (λ x. P N / x) (mul-comm (f .it) d) ∙ sym (div-div-eq-div-mul (P N) d (f .it))
+
+      left : (f : Factor (P N / d)) → 1 < P N / (f .it * d)
+      left f = rw (quotient f) (proper (P N / d) (f .it) most (f .divides) (f .below))
+
+      fewer : (f : Factor (P N / d)) → P N / (f .it * d) ≤ fuel
+      fewer f = rw (quotient f) (omega (arith, div-lt-self most (f .two)))
+
+      positive : (f : Factor (P N / d)) → 0 < f .it * d
+      positive f =
+          let a : 1 ≤ f .it = omega (arith, f .two) in
+          let b : 1 ≤ d = p in
+          omega (arith, mul-le-mul a b)
+
+      goes : (f : Factor (P N / d)) → P N % (f .it * d) ≡ 0
+      goes f =
+          ap (λ x. x % (f .it * d))
+          (sym (whole (P N) d some-steps z) ∙ ap (λ x. x * d) (sym (whole (P N / d) (f .it) most (f .divides))) ∙ mul-assoc (P N / d / f .it) (f .it) d)
+          ∙ mul-mod-left (P N / d / f .it) (f .it * d)
+
+      again : (f : Factor (P N / d)) → tag N taps (f .it * d) ≡ 1
+      again f = ap (tag N taps) (sym (add-zero (f .it * d))) ∙ many-rounds d e (f .it) 0
 
   -- a divisor below P at which they return is found
   found : (d : ℕ) → 0 < d → d < P N → P N % d ≡ 0 → tag N taps d ≡ 1 → returnsEarly N taps ≡ true
-  found d p l z e = elim (decLt d (half N)) [
-    | yes s ↦ some-at (λ i. returnsAt N taps (i + 1)) (half N - 1) (d - 1) (omega arith) (ap (returnsAt N taps) (back d p) ∙ here)
-    | no s ↦ some-at (λ i. returnsAt N taps (i + 1)) (half N - 1) (f - 1) (few s) (ap (returnsAt N taps) (back f (times d z)) ∙ there)
+  found d p l z e = elim (decLt (h .it) (half N)) [
+    | yes s ↦ some-at (λ i. returnsAt N taps (i + 1)) (half N - 1) (h .it - 1) (omega (arith, h .some)) (ap (returnsAt N taps) (back-one (h .it) (h .some)) ∙ here)
+    | no s ↦ some-at (λ i. returnsAt N taps (i + 1)) (half N - 1) (g - 1) (small s) (ap (returnsAt N taps) (back-one g most) ∙ there)
   ]
     where
-      f : ℕ
-      f = P N / d
+      h : Home
+      h = climb (P N / d) d (omega arith) p l z e
 
-      back : (k : ℕ) → 0 < k → k - 1 + 1 ≡ k
-      back k h = omega arith
+      g : ℕ
+      g = P N / h .it
 
-      few : (d < half N → ⊥) → P N / d - 1 < half N - 1
-      few s = elim (decLt (P N / d) (half N)) [
-        | yes h ↦ omega (arith, times d z)
-        | no h ↦
-            let a : half N ≤ P N / d = omega arith in
-            let b : half N ≤ d = omega arith in
-            absurd (omega (arith, mul-le-mul a b, whole d z, square, pow-pos N))
-      ]
+      most : 0 < P N / h .it
+      most = times (P N) (h .it) some-steps (h .divides)
 
-      more : 1 < P N / d
-      more = elim (ℕ-discrete (P N / d) 1) [
-        | yes q ↦ absurd (omega (arith, sym (whole d z) ∙ ap (λ x. x * d) q ∙ one-mul d))
-        | no q ↦ omega (arith, times d z)
-      ]
+      back-one : (k : ℕ) → 0 < k → k - 1 + 1 ≡ k
+      back-one k a = omega arith
 
-      here : returnsAt N taps d ≡ true
-      here = simp (eq-eqb (P N % d) 0 z, lt-ltb d (P N) l, eq-eqb (tag N taps d) 1 e)
+      small : (h .it < half N → ⊥) → P N / h .it - 1 < half N - 1
+      small s = omega (arith, most, one-small (P N) (h .it) some-steps (h .divides) (omega (arith, square, pow-pos N)) s)
 
-      there : returnsAt N taps (P N / d) ≡ true
+      here : returnsAt N taps (h .it) ≡ true
+      here = both-true (eq-eqb (P N % h .it) 0 (h .divides)) (or-first (prime (h .it) && eqb (tag N taps (P N / h .it)) 1) (both-true (h .over) (eq-eqb (tag N taps (h .it)) 1 (h .home))))
+
+      there : returnsAt N taps (P N / h .it) ≡ true
       there =
-          let g = P N / d in
-          let m : P N % g ≡ 0 = ap (λ x. x % g) (sym (whole d z) ∙ mul-comm g d) ∙ mul-mod-left d g in
-          let q : P N / g ≡ d = ap (λ x. x / g) (sym (whole d z) ∙ mul-comm g d) ∙ mul-div-cancel d (times d z) in
-          either (ltb g (P N) && eqb (tag N taps g) 1) (eq-eqb (P N % g) 0 m) (both-true (lt-ltb 1 g more) (eq-eqb (tag N taps (P N / g)) 1 (ap (tag N taps) q ∙ e)))
-        where
-          either : {z : Bool} (a : Bool) {b : Bool} → z ≡ true → b ≡ true → z && (a || b) ≡ true
-          either true p q = ap₂ (λ x y. x && (true || y)) p q
-          either false p q = ap₂ (λ x y. x && (false || y)) p q
+          both-true (eq-eqb (P N % (P N / h .it)) 0 (other (P N) (h .it) some-steps (h .divides)))
+          (or-second (prime (P N / (P N / h .it)) && eqb (tag N taps (P N / h .it)) 1) (both-true (h .over) (eq-eqb (tag N taps (P N / (P N / h .it))) 1 (ap (tag N taps) (back (P N) (h .it) some-steps (h .divides)) ∙ h .home))))
 
   -- what is found there is a return before P
   no-divisor : ((k : ℕ) → 0 < k → k < P N → tag N taps k ≡ 1 → ⊥) → returnsEarly N taps ≡ false
   no-divisor away = some-none (λ i. returnsAt N taps (i + 1)) (half N - 1) (λ i _. none (i + 1) (omega arith))
     where
       none : (d : ℕ) → 0 < d → returnsAt N taps d ≡ false
-      none d p = and-off (eqb (P N % d) 0) _ (λ z. ap₂ _||_ low (high (eqb-true (P N % d) 0 z)))
+      none d p = and-off (eqb (P N % d) 0) _ (λ z. ap₂ _||_ (low (eqb-true (P N % d) 0 z)) (high (eqb-true (P N % d) 0 z)))
         where
-          low : ltb d (P N) && eqb (tag N taps d) 1 ≡ false
-          low = and-off (ltb d (P N)) _ (λ l. ne-eqb (tag N taps d) 1 (away d p (ltb-true d (P N) l)))
+          low : P N % d ≡ 0 → prime (P N / d) && eqb (tag N taps d) 1 ≡ false
+          low z = and-off (prime (P N / d)) _ (λ q. ne-eqb (tag N taps d) 1 (away d p (smaller (P N) d some-steps z (prime-large (P N / d) q))))
 
-          high : P N % d ≡ 0 → ltb 1 d && eqb (tag N taps (P N / d)) 1 ≡ false
-          high z = and-off (ltb 1 d) _ (λ l. ne-eqb (tag N taps (P N / d)) 1 (away (P N / d) (times d z) (div-lt-self (long N taps t) (ltb-true 1 d l))))
+          high : P N % d ≡ 0 → prime d && eqb (tag N taps (P N / d)) 1 ≡ false
+          high z = and-off (prime d) _ (λ q. ne-eqb (tag N taps (P N / d)) 1 (away (P N / d) (times (P N) d some-steps z) (div-lt-self some-steps (prime-large d q))))
 
   pub by-divisors : ((tag N taps (P N) ≡ 1) × (returnsEarly N taps ≡ false)) ↔ (tagPeriod N taps ≡ P N)
   by-divisors = (to, from)

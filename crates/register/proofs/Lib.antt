@@ -7,5 +7,6 @@ pub mod Orbit
 pub mod Correlation
 pub mod Judged
 pub mod TagReturn
+mod Factors
 pub mod Divisors
 pub mod Sequences

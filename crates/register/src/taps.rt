@@ -1,5 +1,5 @@
-// Taps: judged by the first return of the tags, which comes after the full period where the register's does, and is looked for at the divisors of the
-// period alone.
+// Taps: judged by the first return of the tags, which comes after the full period where the register's does, and is looked for at the period over its
+// primes alone.
 use crate::shift::full_period;
 use crate::shift::tag_step;
 ghost use mathlib.Core.Path.{_≡_};
@@ -8,7 +8,7 @@ ghost use Prim.Native.Nat.{_^_, _≤_, _<_};
 ghost use lib.Dec.{eqb};
 ghost use Rattle.sums.specs.Refusals.{first};
 ghost use Rattle.register.specs.Register.{P, tag as tagOf, Tapped};
-ghost use Rattle.register.specs.Doubling.{moved, joined, half as halfOf, returnsAt, returnsEarly};
+ghost use Rattle.register.specs.Doubling.{moved, joined, prime as primeOf, half as halfOf, returnsAt, returnsEarly};
 ghost use Rattle.register.specs.Calls.{shapeChecks, tapsAnswer};
 
 // Of the tags of two delays, the tag of both.
@@ -63,7 +63,25 @@ fn home(order: u32, taps: u32, m: u32, asked: bool) -> bool
     asked && tag_at(order, taps, m) == 1
 }
 
-// Whether d divides P and the tags return after d steps or after P/d, but for P itself.
+// Whether no number but 1 and q divides it: above its root none needs to be tried.
+fn prime(q: u32) -> bool
+    requires { ⌜ q < 65536 ⌝ }
+    ensures { λ r. ⌜ r ≡ primeOf q ⌝ }
+{
+    if q < 2 {
+        return false;
+    }
+    let mut e = 2;
+    while e * e <= q {
+        if q % e == 0 {
+            return false;
+        }
+        e += 1;
+    }
+    true
+}
+
+// Whether d divides P and the tags return after d steps or after P/d, each asked where P is a prime times as many.
 fn returns_at(order: u32, taps: u32, whole: u32, d: u32) -> bool
     requires { ⌜ (order ≤ 16) × Tapped order taps × (whole ≡ P order) × (0 < d) × (d < 2 ^ order) ⌝ }
     ensures { λ r. ⌜ r ≡ returnsAt order taps d ⌝ }
@@ -71,7 +89,8 @@ fn returns_at(order: u32, taps: u32, whole: u32, d: u32) -> bool
     if whole % d != 0 {
         return false;
     }
-    home(order, taps, d, d < whole) || home(order, taps, whole / d, 1 < d)
+    let e = whole / d;
+    home(order, taps, d, prime(e)) || home(order, taps, e, prime(d))
 }
 
 // Of two divisors that go together one is below this.

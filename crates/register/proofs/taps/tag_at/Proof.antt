@@ -1,7 +1,7 @@
 -- `register::taps::tag_at` meets its contract: the tag is that of the bits passed. Assumes nothing.
 use mathlib.Core.Path.{_≡_, sym, ap, _∙_}
 use Prim.Native.Nat.{ℕ, _+_, _-_, _*_, _/_, _%_, _^_, _≤_, _<_}
-use native.Mathlib.Nat.{mod-lt, div-one, div-eq-of-lt, div-div-eq-div-mul, zero-lt-suc, pow-suc}
+use native.Mathlib.Nat.{div-one, div-eq-of-lt, div-div-eq-div-mul, pow-suc}
 use native.Mathlib.Omega.{arith}
 use Rattle.register.specs.Register.{tag as tagOf}
 use Rattle.register.proofs.Divisors.{doubled, joined-lt}

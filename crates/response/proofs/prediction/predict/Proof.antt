@@ -16,7 +16,6 @@ use Rattle.sums.proofs.First.{refused-early, passed-early}
 use Rattle.register.specs.Register.{P, wave, Accepted}
 use Rattle.register.specs.Calls.{tapsChecks, tapsAnswer}
 use Rattle.register.proofs.Judged.{accepted-exactly}
-use Rattle.register.proofs.Word.{small}
 use Rattle.response.specs.Response.{prediction}
 use Rattle.response.specs.Calls.{lengthOff, someOut, heardOutcome, predictionOutcome}
 use Rattle.response.proofs.prediction.predict.Statement.{statement}
