@@ -1,6 +1,3 @@
--- The laws of a campaign's log.
-mod Moving
-pub mod Sizes
-pub mod Standing
+-- The laws of what a log's records do.
+pub mod Rows
 pub mod Starts
-mod Writing

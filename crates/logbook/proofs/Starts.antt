@@ -17,7 +17,7 @@ use Rattle.records.specs.declared.Campaign.{Campaign}
 use Rattle.campaign.specs.Calls.{startChecks, startOutcome}
 use Rattle.campaign.specs.declared.Started.{Started}
 use Rattle.logbook.specs.Book.{tooLarge, logStartChecks, over, startedBy, beganOutcome}
-use Rattle.logbook.specs.declared.Line.the-variants as line
+use Rattle.report.specs.declared.Line.the-variants as line
 
 module _ (c : Campaign) (N taps C : ℕ) (store sums : List ℤ) (room : 4088 ≤ length store) (places : 511 ≤ length sums) where
   enough : tooLarge N C ≡ false → ltb (length store) (C * P N) || ltb (length sums) (P N) ≡ false

@@ -18,12 +18,12 @@ use Rattle.campaign.specs.declared.Withdrawn.{Withdrawn}
 use Rattle.campaign.specs.declared.Tally.{Tally}
 use Rattle.campaign.specs.declared.Counts.{Counts}
 use Rattle.campaign.specs.declared.Counts.the-variants as counts
-use Rattle.logbook.specs.declared.Phase.{Phase}
-use Rattle.logbook.specs.declared.Phase.the-variants as phase
-use Rattle.logbook.specs.declared.Item.{Item}
-use Rattle.logbook.specs.declared.Item.the-variants as item
-use Rattle.logbook.specs.declared.Line.{Line}
-use Rattle.logbook.specs.declared.Line.the-variants as line
+use Rattle.log.specs.declared.Phase.{Phase}
+use Rattle.log.specs.declared.Phase.the-variants as phase
+use Rattle.log.specs.declared.Item.{Item}
+use Rattle.log.specs.declared.Item.the-variants as item
+use Rattle.report.specs.declared.Line.{Line}
+use Rattle.report.specs.declared.Line.the-variants as line
 use Rattle.logbook.specs.declared.Book.{Book}
 use Rattle.logbook.specs.declared.Applied.{Applied}
 

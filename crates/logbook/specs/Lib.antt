@@ -1,4 +1,2 @@
--- What a reader must believe of a campaign's log.
-pub mod Log
+-- What a reader must believe of what a log's records do.
 pub mod Book
-pub mod Lines

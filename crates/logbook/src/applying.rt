@@ -1,11 +1,8 @@
 // What a record does to the state and the memory lent, and the line that it makes.
 use crate::Applied;
 use crate::Book;
-use crate::Item;
-use crate::Line;
 use crate::MOST_ORDER;
 use crate::MOST_SLOTS;
-use crate::Phase;
 use campaign::Counts;
 use campaign::Entered;
 use campaign::Started;
@@ -16,11 +13,14 @@ use campaign::counting::counts;
 use campaign::entering::enter;
 use campaign::starting::start;
 use campaign::withdrawing::withdraw;
+use log::Item;
+use log::Phase;
 use records::Campaign;
 use records::filing::blank;
 use records::tables::outside;
 use register::shift::full_period;
 use register::taps::check_taps;
+use report::Line;
 ghost use mathlib.Core.Path.{_≡_};
 ghost use Rattle.sums.specs.Refusals.{first};
 ghost use Rattle.logbook.specs.Book.{unbegunBook, tooLarge, logStartChecks, dayLength, said, startedBy, beganOutcome, putSample, tookSample, enteredBy, enteredOutcome, closedOutcome, withdrawnBy, withdrewOutcome, tallied, askedOutcome, memory, applied};

@@ -1,6 +1,6 @@
 // Standard input through a buffer.
 use libc::STDIN_FILENO;
-use logbook::feeding::to_front;
+use log::feeding::to_front;
 ghost use Prim.Native.Nat.{_≤_};
 ghost use lib.ListN.{length};
 

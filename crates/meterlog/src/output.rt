@@ -1,7 +1,7 @@
 // Lines on standard output.
 use libc::STDOUT_FILENO;
-use logbook::Text;
-use logbook::printing::row_text;
+use report::Text;
+use report::printing::row_text;
 ghost use Prim.Native.Nat.{_≤_};
 ghost use lib.ListN.{length};
 

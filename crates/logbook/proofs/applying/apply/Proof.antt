@@ -9,11 +9,11 @@ use mir.ValLaws.{toZ-ofZ}
 use Rattle.logbook.specs.Book.{said, beganOutcome, tookSample, closedOutcome, withdrewOutcome, askedOutcome, memory, filing, sampling, asking, applied}
 use Rattle.logbook.specs.declared.Applied.{Applied}
 use Rattle.logbook.specs.declared.Book.{Book}
-use Rattle.logbook.specs.declared.Phase.{Phase}
-use Rattle.logbook.specs.declared.Phase.the-variants as phase
-use Rattle.logbook.specs.declared.Item.{Item}
-use Rattle.logbook.specs.declared.Item.the-variants as item
-use Rattle.logbook.specs.declared.Line.the-variants as line
+use Rattle.log.specs.declared.Phase.{Phase}
+use Rattle.log.specs.declared.Phase.the-variants as phase
+use Rattle.log.specs.declared.Item.{Item}
+use Rattle.log.specs.declared.Item.the-variants as item
+use Rattle.report.specs.declared.Line.the-variants as line
 use Rattle.logbook.proofs.applying.apply.Statement.{statement}
 use Rattle.logbook.proofs.applying.apply.Tie as tie
 

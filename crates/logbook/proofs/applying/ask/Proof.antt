@@ -11,7 +11,7 @@ use Rattle.campaign.specs.declared.Tally.{Tally}
 use Rattle.logbook.specs.Book.{dayLength, tallied, asks, askedOutcome}
 use Rattle.logbook.specs.declared.Applied.{Applied}
 use Rattle.logbook.specs.declared.Book.{Book}
-use Rattle.logbook.specs.declared.Line.the-variants as line
+use Rattle.report.specs.declared.Line.the-variants as line
 use Rattle.logbook.proofs.applying.ask.Statement.{statement}
 use Rattle.logbook.proofs.applying.ask.Tie as tie
 

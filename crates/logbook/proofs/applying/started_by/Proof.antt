@@ -4,8 +4,8 @@ use borrow.Author.Needs.{needs}
 use Rattle.sums.specs.Refusals.{answered}
 use Rattle.sums.proofs.First.{answered-refused}
 use Rattle.logbook.specs.Book.{said}
-use Rattle.logbook.specs.declared.Phase.the-variants as phase
-use Rattle.logbook.specs.declared.Line.the-variants as line
+use Rattle.log.specs.declared.Phase.the-variants as phase
+use Rattle.report.specs.declared.Line.the-variants as line
 use Rattle.logbook.proofs.applying.started_by.Statement.{statement}
 use Rattle.logbook.proofs.applying.started_by.Tie as tie
 

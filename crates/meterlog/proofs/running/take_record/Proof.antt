@@ -5,7 +5,7 @@ use native.Mathlib.Omega.{arith}
 use borrow.Author.Needs.{needs}
 use Rattle.logbook.specs.Book.{Memory, memory}
 use Rattle.logbook.specs.declared.Applied.{Applied}
-use Rattle.logbook.proofs.Sizes.{rows-few}
+use Rattle.logbook.proofs.Rows.{rows-few}
 use Rattle.meterlog.proofs.running.take_record.Statement.{statement}
 use Rattle.meterlog.proofs.running.take_record.Tie as tie
 

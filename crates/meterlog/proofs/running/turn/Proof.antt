@@ -4,7 +4,7 @@ use Prim.Native.Nat.{_-_, _≤_}
 use native.Mathlib.Omega.{arith}
 use borrow.Author.Needs.{needs}
 use lib.ListN.{take, drop, length-take}
-use Rattle.logbook.proofs.Sizes.{whole-fits}
+use Rattle.log.proofs.Sizes.{whole-fits}
 use Rattle.meterlog.proofs.running.turn.Statement.{statement}
 use Rattle.meterlog.proofs.running.turn.Tie as tie
 

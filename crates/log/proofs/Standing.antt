@@ -1,0 +1,115 @@
+-- What stands at a place, by the tests that decide it; and each way to be bad. Assumes nothing.
+use mathlib.Core.Path.{_≡_, refl, sym, ap, ap₂, _∙_}
+use mathlib.Core.List.{List, [], _∷_, _++_}
+use mathlib.Core.Bool.{Bool, true, false, cond}
+use Prim.Native.Nat.{ℕ, suc, _+_, _*_, _≤_, _<_}
+use mathlib.Core.Logic.{_⊎_, inl, inr, ⊎-elim}
+use native.Mathlib.Omega.{arith}
+use borrow.Author.Tests.{ne-eqb, le-leb, lt-leb, le-ltb, eqb-true, leb-true, leb-false}
+use lib.Dec.{eqb, leb}
+use lib.ListN.{length, length-append, List·getD-append}
+use Rattle.log.specs.Log.{bodyLength, byteAt, pairAt, signed, itemAt, mayStand, cut, decoded}
+use Rattle.log.specs.declared.Phase.{Phase}
+use Rattle.log.specs.declared.Phase.the-variants as phase
+use Rattle.log.specs.declared.Item.the-variants as item
+use Rattle.log.specs.declared.Found.the-variants as found
+
+-- a number that is 0 or above 6 is none of 1 to 6
+none : {k : ℕ} → (k ≡ 0) ⊎ (6 < k) → (n : ℕ) → 0 < n → n ≤ 6 → k ≡ n → ⊥
+none u n h l e = ⊎-elim (λ z. omega arith) (λ z. omega arith) u
+
+-- ---- by the tests
+
+module _ (p : Phase) (P : ℕ) (bytes : List ℕ) (ended : Bool) (some : length bytes ≡ 0 → ⊥) where
+  pub barred : mayStand p P (byteAt bytes 0) ≡ false → found.Bad ≡ decoded p P bytes ended
+  unfolding decoded
+  barred m = simp (ne-eqb (length bytes) 0 some, m)
+
+  module _ (m : mayStand p P (byteAt bytes 0) ≡ true) where
+    pub short : length bytes ≤ bodyLength (byteAt bytes 0) → cut ended ≡ decoded p P bytes ended
+    unfolding decoded
+    short h = simp (ne-eqb (length bytes) 0 some, m, le-leb (length bytes) (bodyLength (byteAt bytes 0)) h)
+
+    pub whole : bodyLength (byteAt bytes 0) < length bytes
+        → found.Whole (itemAt (byteAt bytes 0) bytes) (bodyLength (byteAt bytes 0) + 1) ≡ decoded p P bytes ended
+    unfolding decoded
+    whole h = simp (ne-eqb (length bytes) 0 some, m, lt-leb (length bytes) (bodyLength (byteAt bytes 0)) h)
+
+-- ---- each way to be bad: at the place of the kind byte
+
+-- an unknown kind
+unknown-barred : (p : Phase) (P k : ℕ) → (k ≡ 0) ⊎ (6 < k) → mayStand p P k ≡ false
+unknown-barred phase.Unbegun P k u = simp (ne-eqb k 1 (none u 1 (omega arith) (omega arith)))
+unknown-barred phase.Between P k u = simp (ne-eqb k 2 (none u 2 (omega arith) (omega arith)), ne-eqb k 5 (none u 5 (omega arith) (omega arith)), ne-eqb k 6 (none u 6 (omega arith) (omega arith)))
+unknown-barred (phase.Open d n) P k u = simp (ne-eqb k 4 (none u 4 (omega arith) (omega arith)), ne-eqb k 3 (none u 3 (omega arith) (omega arith)))
+unknown-barred phase.Stopped P k u = refl
+
+-- a kind that may not stand there, whatever follows it
+module _ (p : Phase) (P k : ℕ) (rest : List ℕ) (ended : Bool) where
+  pub misplaced : mayStand p P k ≡ false → decoded p P (k ∷ rest) ended ≡ found.Bad
+  misplaced m = sym (barred p P (k ∷ rest) ended (λ e. omega arith) m)
+
+  pub unknown-kind : (k ≡ 0) ⊎ (6 < k) → decoded p P (k ∷ rest) ended ≡ found.Bad
+  unknown-kind u = misplaced (unknown-barred p P k u)
+
+  -- a cut body, once the input has ended
+  pub cut-body : mayStand p P k ≡ true → length rest < bodyLength k → decoded p P (k ∷ rest) true ≡ found.Bad
+  cut-body m h = sym (short p P (k ∷ rest) true (λ e. omega arith) m (omega arith))
+
+-- a second start; a day's records outside a day; a withdrawal, a question or another day in an open day
+pub second-start : (P : ℕ) (rest : List ℕ) (ended : Bool) → decoded phase.Between P (1 ∷ rest) ended ≡ found.Bad
+second-start P rest ended = misplaced phase.Between P 1 rest ended refl
+
+pub beyond-P : (d P : ℕ) (rest : List ℕ) (ended : Bool) → decoded (phase.Open d P) P (3 ∷ rest) ended ≡ found.Bad
+beyond-P d P rest ended = misplaced (phase.Open d P) P 3 rest ended (le-ltb P P (omega arith))
+
+-- the end of the input inside an open day, and with no input at all: the place is the input's length
+pub ends-in-a-day : (d n P : ℕ) → decoded (phase.Open d n) P [] true ≡ found.Bad
+unfolding decoded
+ends-in-a-day d n P = refl
+
+pub no-input : (P : ℕ) → decoded phase.Unbegun P [] true ≡ found.Bad
+unfolding decoded
+no-input P = refl
+
+-- ---- however the input is cut
+
+pick : {A : Type 0} (b : Bool) {x y u v : A} → (b ≡ true → x ≡ y) → u ≡ v → cond b x u ≡ cond b y v
+pick true f g = f refl
+pick false f g = g
+
+module _ (bytes more : List ℕ) where
+  same-byte : (i : ℕ) → i < length bytes → byteAt (bytes ++ more) i ≡ byteAt bytes i
+  same-byte i h = List·getD-append bytes more 0 i h
+
+  same-pair : (i : ℕ) → i + 1 < length bytes → pairAt (bytes ++ more) i ≡ pairAt bytes i
+  same-pair i h = ap₂ (λ a b. a + 256 * b) (same-byte i (omega arith)) (same-byte (i + 1) h)
+
+  same-item : (k : ℕ) → bodyLength k < length bytes → itemAt k (bytes ++ more) ≡ itemAt k bytes
+  same-item k h =
+      pick (eqb k 1) (λ e. let l : 4 < length bytes = rw (eqb-true k 1 e) at h in
+      rw (same-byte 1 (omega arith), same-pair 2 (omega arith), same-byte 4 (omega arith)))
+      (pick (eqb k 2) (λ e. let l : 2 < length bytes = rw (eqb-true k 2 e) at h in ap item.Open (same-pair 1 (omega arith)))
+      (pick (eqb k 3) (λ e. let l : 3 < length bytes = rw (eqb-true k 3 e) at h in
+      ap (λ n. item.Sample (signed n)) (ap₂ (λ a b. a + 65536 * b) (same-pair 1 (omega arith)) (same-byte 3 l)))
+      (pick (eqb k 4) (λ e. refl)
+      (pick (eqb k 5) (λ e. let l : 2 < length bytes = rw (eqb-true k 5 e) at h in ap item.Withdraw (same-pair 1 (omega arith))) refl))))
+
+module _ (p : Phase) (P : ℕ) (k : ℕ) (bytes more : List ℕ) (ended : Bool) where
+  -- while more may come a record is not whole, or it is the one that is found with all that comes
+  settled-at : (b : Bool) → mayStand p P k ≡ b → (c : Bool) → leb (suc (length bytes)) (bodyLength k) ≡ c
+      → (decoded p P (k ∷ bytes) false ≡ found.Short) ⊎ (decoded p P (k ∷ bytes ++ more) ended ≡ decoded p P (k ∷ bytes) false)
+  settled-at false m c e = inr (misplaced p P k (bytes ++ more) ended m ∙ sym (misplaced p P k bytes false m))
+  settled-at true m true e = inl (sym (short p P (k ∷ bytes) false (λ z. omega arith) m (leb-true (suc (length bytes)) (bodyLength k) e)))
+  settled-at true m false e =
+      let h : bodyLength k < suc (length bytes) = leb-false (suc (length bytes)) (bodyLength k) e in
+      inr (sym (whole p P (k ∷ bytes ++ more) ended (λ z. omega arith) m (simp length-append (omega arith)))
+      ∙ ap (λ i. found.Whole i (bodyLength k + 1)) (same-item (k ∷ bytes) more k h)
+      ∙ whole p P (k ∷ bytes) false (λ z. omega arith) m h)
+
+-- what is found while more may come is what is found with all that comes
+pub settled : (p : Phase) (P : ℕ) (bytes more : List ℕ) (ended : Bool)
+    → (decoded p P bytes false ≡ found.Short) ⊎ (decoded p P (bytes ++ more) ended ≡ decoded p P bytes false)
+unfolding decoded
+settled p P [] more ended = inl refl
+settled p P (k ∷ bytes) more ended = settled-at p P k bytes more ended (mayStand p P k) refl (leb (suc (length bytes)) (bodyLength k)) refl

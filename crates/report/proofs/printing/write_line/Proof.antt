@@ -1,0 +1,82 @@
+-- `report::printing::write_line` meets its contract: each return rewrites with the line. Assumes nothing.
+use borrow.Author.Needs.{needs}
+use Rattle.report.proofs.Writing.{wrote-none}
+use Rattle.report.proofs.printing.write_line.Statement.{statement}
+use Rattle.report.proofs.printing.write_line.Tie as tie
+
+enum-told : tie.Need-enum-told
+enum-told c = search needs
+
+enum-known-line : tie.Need-enum-known-line
+enum-known-line c = search needs
+
+write-start-requires : tie.Need-write-start-requires
+write-start-requires c κs = search needs
+
+enum-known-line-2 : tie.Need-enum-known-line-2
+enum-known-line-2 c = search needs
+
+write-enter-requires : tie.Need-write-enter-requires
+write-enter-requires c κs = search needs
+
+enum-known-line-3 : tie.Need-enum-known-line-3
+enum-known-line-3 c = search needs
+
+write-withdraw-requires : tie.Need-write-withdraw-requires
+write-withdraw-requires c κs = search needs
+
+enum-known-line-4 : tie.Need-enum-known-line-4
+enum-known-line-4 c = search needs
+
+write-response-requires : tie.Need-write-response-requires
+write-response-requires c κs = search needs
+
+returns : tie.Need-returns
+returns c = rw (c .enum-told .given .1) (wrote-none 0 (c .before .before .before .args .out .now))
+
+same-length : tie.Need-same-length
+same-length c = search needs
+
+returns-2 : tie.Need-returns-2
+returns-2 c = rw (c .before .before .before .before .before .line .given .1) (c .before .before .write-start .ensures)
+
+same-length-2 : tie.Need-same-length-2
+same-length-2 c = search needs
+
+returns-3 : tie.Need-returns-3
+returns-3 c = rw (c .before .before .before .before .before .line2 .given .1) (c .before .before .write-enter .ensures)
+
+same-length-3 : tie.Need-same-length-3
+same-length-3 c = search needs
+
+returns-4 : tie.Need-returns-4
+returns-4 c = rw (c .before .before .before .before .before .line3 .given .1) (c .before .before .write-withdraw .ensures)
+
+same-length-4 : tie.Need-same-length-4
+same-length-4 c = search needs
+
+returns-5 : tie.Need-returns-5
+returns-5 c = rw (c .before .before .before .before .before .line4 .given .1) (c .before .before .write-response .ensures)
+
+pub write-line-spec : {M : Type 1} → statement M
+write-line-spec =
+    tie.close
+    (tie.spec
+    enum-told
+    enum-known-line
+    write-start-requires
+    enum-known-line-2
+    write-enter-requires
+    enum-known-line-3
+    write-withdraw-requires
+    enum-known-line-4
+    write-response-requires
+    returns
+    same-length
+    returns-2
+    same-length-2
+    returns-3
+    same-length-3
+    returns-4
+    same-length-4
+    returns-5)

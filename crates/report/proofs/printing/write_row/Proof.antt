@@ -1,0 +1,48 @@
+-- `report::printing::write_row` meets its contract. Assumes nothing.
+use borrow.Author.Needs.{needs}
+use mir.Syntax.{w64}
+use mir.ValLaws.{toZ-ofZ}
+use Rattle.report.proofs.Writing.{wrote-more}
+use Rattle.report.proofs.printing.write_row.Statement.{statement}
+use Rattle.report.proofs.printing.write_row.Tie as tie
+
+put-number-requires : tie.Need-put-number-requires
+put-number-requires c κs = search needs
+
+put-byte-requires : tie.Need-put-byte-requires
+put-byte-requires c κs = search needs
+
+put-signed-requires : tie.Need-put-signed-requires
+put-signed-requires c κs = search needs
+
+put-byte-requires-2 : tie.Need-put-byte-requires-2
+put-byte-requires-2 c κs = search needs
+
+put-signed-requires-2 : tie.Need-put-signed-requires-2
+put-signed-requires-2 c κs = search needs
+
+put-byte-requires-3 : tie.Need-put-byte-requires-3
+put-byte-requires-3 c κs = search needs
+
+same-length : tie.Need-same-length
+same-length c = search needs
+
+returns : tie.Need-returns
+returns c =
+    let a = c .before .before .before .before .before .before .before .before .before .before .before .before .before .before .before .before .before .before .before .before .before .before .before .before .before in
+    wrote-more (wrote-more (wrote-more (wrote-more (wrote-more (c .before .before .before .before .before .before .before .before .before .before .before .before .before .before .before .before .before .before .before .before .before .before .put-number .ensures .0) (c .before .before .before .before .before .before .before .before .before .before .before .before .before .before .before .before .before .before .put-byte .ensures))
+    (rw (toZ-ofZ w64 (a .args .r) (a .fits .r)) at (c .before .before .before .before .before .before .before .before .before .before .before .before .before .before .put-signed .ensures .0)))
+    (c .before .before .before .before .before .before .before .before .before .before .put-byte2 .ensures)) (rw (toZ-ofZ w64 (a .args .mean) (a .fits .mean)) at (c .before .before .before .before .before .before .put-signed2 .ensures .0))) (c .before .before .put-byte3 .ensures)
+
+pub write-row-spec : {M : Type 1} → statement M
+write-row-spec =
+    tie.close
+    (tie.spec
+    put-number-requires
+    put-byte-requires
+    put-signed-requires
+    put-byte-requires-2
+    put-signed-requires-2
+    put-byte-requires-3
+    same-length
+    returns)

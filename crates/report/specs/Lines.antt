@@ -1,0 +1,88 @@
+-- Document 01, "The log program", "Lines": what is printed, byte by byte in ASCII. Assumes nothing.
+use mathlib.Core.Path.{_≡_}
+use mathlib.Core.List.{List, [], _∷_, _++_}
+use mathlib.Core.Bool.{cond}
+use Prim.Native.Nat.{ℕ, zero, suc, _+_, _/_, _%_}
+use lib.Dec.{ltb}
+use lib.IntN.{ℤ, pos, natAbs}
+use lib.ListN.{length, take}
+use lib.Signed.{ltZ}
+use Rattle.campaign.specs.Calls.{verdictNumber}
+use Rattle.campaign.specs.declared.Entry.{Entry}
+use Rattle.campaign.specs.declared.Tally.{Tally}
+use Rattle.campaign.specs.declared.Verdict.{Verdict}
+use Rattle.campaign.specs.declared.Verdict.the-variants as verdict
+use Rattle.report.specs.declared.Line.{Line}
+use Rattle.report.specs.declared.Line.the-variants as line
+
+-- ---- numbers
+
+-- in decimal, with no zeros in front, in at most k digits
+unfoldable pub digits : ℕ → ℕ → List ℕ
+digits zero n = []
+digits (suc k) n = cond (ltb n 10) ((48 + n) ∷ []) (digits k (n / 10) ++ (48 + n % 10) ∷ [])
+
+-- a number of 64 bits has at most 20
+abbrev pub decimal : ℕ → List ℕ
+decimal n = digits 20 n
+
+-- a negative one after a minus sign
+abbrev pub decimalZ : ℤ → List ℕ
+decimalZ z = cond (ltZ z (pos 0)) (45 ∷ decimal (natAbs z)) (decimal (natAbs z))
+
+-- after a space
+abbrev pub spaced : ℕ → List ℕ
+spaced n = 32 ∷ decimal n
+
+-- ---- the lines
+
+abbrev pub lineEnd : List ℕ
+lineEnd = 10 ∷ []
+
+-- `start answer`
+abbrev pub startLine : ℕ → List ℕ
+startLine answer = (115 ∷ 116 ∷ 97 ∷ 114 ∷ 116 ∷ []) ++ spaced answer ++ lineEnd
+
+-- kept, overload, dead, or - when refused
+abbrev pub verdictWord : Verdict → List ℕ
+verdictWord (verdict.Kept s) = 32 ∷ 107 ∷ 101 ∷ 112 ∷ 116 ∷ []
+verdictWord (verdict.Overloaded p) = 32 ∷ 111 ∷ 118 ∷ 101 ∷ 114 ∷ 108 ∷ 111 ∷ 97 ∷ 100 ∷ []
+verdictWord verdict.Dead = 32 ∷ 100 ∷ 101 ∷ 97 ∷ 100 ∷ []
+verdictWord (verdict.Refused n) = 32 ∷ 45 ∷ []
+
+-- `enter day answer verdict`
+abbrev pub enterLine : Entry → List ℕ
+enterLine e =
+    (101 ∷ 110 ∷ 116 ∷ 101 ∷ 114 ∷ []) ++ spaced (e .day) ++ spaced (verdictNumber (e .verdict)) ++ verdictWord (e .verdict) ++ lineEnd
+
+-- `withdraw day answer`
+abbrev pub withdrawLine : ℕ → ℕ → List ℕ
+withdrawLine d answer = (119 ∷ 105 ∷ 116 ∷ 104 ∷ 100 ∷ 114 ∷ 97 ∷ 119 ∷ []) ++ spaced d ++ spaced answer ++ lineEnd
+
+-- `response answer standing overloaded dead withdrawn`
+abbrev pub responseLine : ℕ → Tally → List ℕ
+responseLine answer t =
+    (114 ∷ 101 ∷ 115 ∷ 112 ∷ 111 ∷ 110 ∷ 115 ∷ 101 ∷ [])
+    ++ spaced answer ++ spaced (t .standing) ++ spaced (t .overloaded) ++ spaced (t .dead) ++ spaced (t .withdrawn) ++ lineEnd
+
+-- the line that a record makes
+abbrev pub lineBytes : Line → List ℕ
+lineBytes line.Silent = []
+lineBytes (line.Started answer) = startLine answer
+lineBytes (line.Entered e) = enterLine e
+lineBytes (line.Withdrawn d answer) = withdrawLine d answer
+lineBytes (line.Answered answer t) = responseLine answer t
+
+-- `k r mean`
+abbrev pub rowBytes : ℕ → ℤ → ℤ → List ℕ
+rowBytes k r mean = decimal k ++ (32 ∷ []) ++ decimalZ r ++ (32 ∷ []) ++ decimalZ mean ++ lineEnd
+
+-- `bad` and the byte offset
+abbrev pub badBytes : ℕ → List ℕ
+badBytes offset = (98 ∷ 97 ∷ 100 ∷ []) ++ spaced offset ++ lineEnd
+
+-- ---- written to a buffer from a place on, up to the place that is answered
+
+pub record Wrote (text : List ℕ) (at : ℕ) (before : List ℕ) (next : ℕ) (after : List ℕ) : Type 0 where
+  pub is : take next after ≡ take at before ++ text
+  pub size : next ≡ at + length text

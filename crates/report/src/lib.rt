@@ -1,0 +1,23 @@
+// The lines that a log's records make, as bytes.
+pub mod printing;
+
+use campaign::Entry;
+use campaign::Tally;
+
+// The line that a record makes.
+pub enum Line {
+    Silent,
+    // The answer.
+    Started(u32),
+    Entered(Entry),
+    // The day and the answer.
+    Withdrawn(u32, u32),
+    // The answer and the counts.
+    Answered(u32, Tally),
+}
+
+// A line's bytes: the first `length` of them.
+pub struct Text {
+    pub bytes: [u8; 128],
+    pub length: usize,
+}
