@@ -16,9 +16,9 @@ use Rattle.sums.proofs.Sum.{sum-ext, pos-total, total-scaled, natAbs-total}
 use Rattle.register.specs.Register.{P}
 use Rattle.register.proofs.Judged.{generator}
 use Rattle.register.proofs.Word.{small}
-use Rattle.response.specs.Rounding.{nearest, rounded}
+use Rattle.rounding.specs.Rounding.{nearest, rounded}
 use Rattle.response.specs.Calls.{sampleOut}
-use Rattle.response.proofs.Nearest.{near-nearest}
+use Rattle.rounding.proofs.Nearest.{near-nearest}
 use Rattle.response.proofs.Register.{response-bound}
 use Rattle.records.specs.Record.{unseen, standing, overloaded, dead, withdrawn, state, daysIn, slot, free, sample}
 use Rattle.campaign.specs.Calls.{worked, divisor, meanAt, extremesOf}

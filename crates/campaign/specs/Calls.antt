@@ -13,7 +13,7 @@ use Rattle.sums.specs.Refusals.{outcome}
 use Rattle.register.specs.Register.{P, wave}
 use Rattle.register.specs.Calls.{tapsChecks}
 use Rattle.response.specs.Response.{response}
-use Rattle.response.specs.Rounding.{rounded}
+use Rattle.rounding.specs.Rounding.{rounded}
 use Rattle.response.specs.Calls.{lengthOff, someOut, workShort, clearedWide, clearedTags}
 use Rattle.records.specs.Record.{standing, overloaded, dead, withdrawn, unseen, stands, daysIn, slot, free, base, sample, eqZ, together, fresh, marked, filed}
 use Rattle.records.specs.declared.Campaign.{Campaign}

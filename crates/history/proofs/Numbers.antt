@@ -10,7 +10,7 @@ use Rattle.sums.specs.Lists.{seek, some, every, many, table, put, putAt}
 use Rattle.register.specs.Register.{dot, step, window, bit, wave, period}
 use Rattle.register.specs.Calls.{tapsAnswer}
 use Rattle.response.specs.Response as formula
-use Rattle.response.specs.Rounding.{nearest, rounded}
+use Rattle.rounding.specs.Rounding.{nearest, rounded}
 use Rattle.records.specs.Record.{together, fresh}
 use Rattle.campaign.specs.Calls.{enterOutcome, withdrawOutcome, responseOutcome}
 use Rattle.history.specs.Run.{World, enter, withdraw, response, after, answer, run}

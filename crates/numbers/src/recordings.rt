@@ -3,7 +3,7 @@ use lines::print::line_end;
 use lines::print::number;
 use lines::print::signed;
 use lines::print::word;
-use response::rounding::mean;
+use rounding::means::mean;
 ghost use Prim.Native.Nat.{_<_, _^_};
 ghost use lib.IntN.{natAbs};
 

@@ -4,9 +4,6 @@ pub mod Linear
 pub mod Register
 pub mod Laying
 pub mod Kernel
-pub mod Nearest
-mod Signs
-mod Reciprocal
 pub mod Samples
 pub mod FastRoute
 pub mod Transformed

@@ -1,6 +1,4 @@
--- What a reader must believe of a response, a prediction and a mean.
+-- What a reader must believe of a response and a prediction.
 pub mod Response
 pub mod Calls
-pub mod Rounding
-pub mod Halving
 pub mod Route

@@ -11,7 +11,7 @@ use Rattle.sums.proofs.First.{refused-with, accepted-with}
 use Rattle.sums.proofs.Tables.{at-put, table-ext}
 use Rattle.register.specs.Register.{P}
 use Rattle.response.specs.Calls.{sampleOut, clearedWide, clearedTags}
-use Rattle.response.specs.Rounding.{rounded}
+use Rattle.rounding.specs.Rounding.{rounded}
 use Rattle.records.specs.Record.{standing}
 use Rattle.campaign.specs.Calls.{responseChecks, worked, divisor, meanAt, responseOutcome}
 use Rattle.records.specs.declared.Campaign.{Campaign}

@@ -6,7 +6,7 @@ use mathlib.Core.Bool.{Bool, true, false}
 use lib.Dec.{ltb}
 use borrow.Author.Tests.{ltb-true, ltb-false}
 use native.Mathlib.Omega.{arith}
-use Rattle.response.specs.Rounding.{nearest}
+use Rattle.rounding.specs.Rounding.{nearest}
 
 module _ (a d q m : ℕ) (e : q * d + m ≡ a) (l : m < d) where
   -- below the half

@@ -1,4 +1,4 @@
--- `response::rounding::mean_by` meets its contract: a sample's size is 2^23 at most, and its sign is that of the number divided. Assumes nothing.
+-- `rounding::means::mean_by` meets its contract: a sample's size is 2^23 at most, and its sign is that of the number divided. Assumes nothing.
 use borrow.Author.Needs.{needs}
 use mathlib.Core.Path.{_≡_, ap, _∙_}
 use Prim.Native.Nat.{_^_, _≤_}
@@ -8,12 +8,12 @@ use mir.Syntax.{w64}
 use mir.Val.{toZ, ofZ}
 use mir.ValLaws.{toZ-ofZ}
 use Rattle.sums.proofs.Bound.{read}
-use Rattle.response.specs.Rounding.{nearest, rounded}
-use Rattle.response.specs.Halving.{withSign}
+use Rattle.rounding.specs.Rounding.{nearest, rounded}
+use Rattle.rounding.specs.Halving.{withSign}
 use Rattle.response.proofs.Samples.{sample-size}
-use Rattle.response.proofs.Signs.{rounded-signed, rounded-size}
-use Rattle.response.proofs.rounding.mean_by.Statement.{statement}
-use Rattle.response.proofs.rounding.mean_by.Tie as tie
+use Rattle.rounding.proofs.Signs.{rounded-signed, rounded-size}
+use Rattle.rounding.proofs.means.mean_by.Statement.{statement}
+use Rattle.rounding.proofs.means.mean_by.Tie as tie
 
 small : (c : tie.Start) → nearest (natAbs (c .args .r)) (c .args .d) ≤ 2 ^ 23
 small c = omega (arith, sample-size (rounded (c .args .r) (c .args .d)) (c .pre .2), rounded-size (c .args .r) (c .args .d))

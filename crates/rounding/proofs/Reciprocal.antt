@@ -6,8 +6,8 @@ use native.Mathlib.Nat.{mul-comm, mul-assoc, mul-add, add-mul, mul-one, one-mul,
 use native.Mathlib.Numerals.{add-one}
 use native.Mathlib.Omega.{arith}
 use lib.Pow.{pow-pos, pow-mono}
-use Rattle.response.specs.Rounding.{nearest}
-use Rattle.response.specs.Halving.{Split}
+use Rattle.rounding.specs.Rounding.{nearest}
+use Rattle.rounding.specs.Halving.{Split}
 
 module _ (K x n : ℕ) (p : 0 < n) (short : x * n < K) where
   -- the reciprocal, and what it comes to

@@ -1,11 +1,11 @@
--- `response::rounding::halve` meets its contract: at each turn what is left, times the power of two taken out, is the number. Assumes nothing.
+-- `rounding::means::halve` meets its contract: at each turn what is left, times the power of two taken out, is the number. Assumes nothing.
 use mathlib.Core.Path.{_≡_, sym, ap, _∙_}
 use Prim.Native.Nat.{ℕ, _+_, _-_, _*_, _/_, _%_, _^_, _≤_}
 use native.Mathlib.Nat.{mul-one, mul-assoc, div-add-mod', pow-succ'}
 use native.Mathlib.Numerals.{add-one}
 use native.Mathlib.Omega.{arith}
-use Rattle.response.proofs.rounding.halve.Statement.{statement}
-use Rattle.response.proofs.rounding.halve.Tie as tie
+use Rattle.rounding.proofs.means.halve.Statement.{statement}
+use Rattle.rounding.proofs.means.halve.Tie as tie
 
 -- one more 2 taken out of an even number
 again : (rest times d : ℕ) → (rest % 2 ≡ 1 → ⊥) → rest * 2 ^ times ≡ d → rest / 2 * 2 ^ (times + 1) ≡ d

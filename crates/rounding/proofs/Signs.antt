@@ -10,8 +10,8 @@ use mir.Syntax.{w64}
 use mir.Val.{SFits, toZ}
 use mir.ValLaws.{toZ-ofZ}
 use Rattle.sums.proofs.Bound.{natAbs-neg}
-use Rattle.response.specs.Rounding.{nearest, rounded}
-use Rattle.response.specs.Halving.{withSign}
+use Rattle.rounding.specs.Rounding.{nearest, rounded}
+use Rattle.rounding.specs.Halving.{withSign}
 
 -- a number of 64 bits below 2 ^ 63, read as a signed one
 pub as-signed : (n : ℕ) → n < 2 ^ 63 → toZ w64 n ≡ pos n

@@ -1,10 +1,10 @@
--- `response::rounding::near` meets its contract, by the laws of `Nearest`. Assumes nothing.
+-- `rounding::means::near` meets its contract, by the laws of `Nearest`. Assumes nothing.
 use native.Mathlib.Nat.{le-of-lt, mod-lt}
 use native.Mathlib.Omega.{arith}
-use Rattle.response.proofs.Nearest.{near-down, near-up, near-room}
+use Rattle.rounding.proofs.Nearest.{near-down, near-up, near-room}
 use borrow.Author.Needs.{needs}
-use Rattle.response.proofs.rounding.near.Statement.{statement}
-use Rattle.response.proofs.rounding.near.Tie as tie
+use Rattle.rounding.proofs.means.near.Statement.{statement}
+use Rattle.rounding.proofs.means.near.Tie as tie
 
 div-q : tie.Need-div-q
 div-q c = search needs

@@ -6,9 +6,9 @@ ghost use Prim.Native.Nat.{ℕ, _*_, _≤_, _<_, _^_};
 ghost use lib.IntN.{natAbs};
 ghost use lib.ListN.{length};
 ghost use Rattle.sums.specs.Lists.{at, table, put};
 ghost use Rattle.response.specs.Calls.{sampleOut};
-ghost use Rattle.response.specs.Rounding.{nearest, rounded};
-ghost use Rattle.response.specs.Halving.{Split, withSign};
+ghost use Rattle.rounding.specs.Rounding.{nearest, rounded};
+ghost use Rattle.rounding.specs.Halving.{Split, withSign};
 
 // a / d to the nearest, a half going up.
 fn near(a: u64, d: u64) -> u64

@@ -1,13 +1,13 @@
--- `response::rounding::with_sign` meets its contract. Assumes nothing.
+-- `rounding::means::with_sign` meets its contract. Assumes nothing.
 use borrow.Author.Needs.{needs}
 use mathlib.Core.Path.{_≡_, _∙_}
 use lib.IntN.{pos, negℤ}
 use mir.Syntax.{w64}
 use mir.Val.{toZ, ofZ}
 use mir.ValLaws.{toZ-ofZ}
-use Rattle.response.proofs.Signs.{as-signed, neg-fits, minus-is, sign-negative, sign-positive}
-use Rattle.response.proofs.rounding.with_sign.Statement.{statement}
-use Rattle.response.proofs.rounding.with_sign.Tie as tie
+use Rattle.rounding.proofs.Signs.{as-signed, neg-fits, minus-is, sign-negative, sign-positive}
+use Rattle.rounding.proofs.means.with_sign.Statement.{statement}
+use Rattle.rounding.proofs.means.with_sign.Tie as tie
 
 back-z : (c : tie.Start) → toZ w64 (ofZ w64 (c .args .z)) ≡ c .args .z
 back-z c = toZ-ofZ w64 (c .args .z) (c .fits .z)

@@ -1,4 +1,4 @@
--- `response::rounding::write_shifted` meets its contract: after k turns the first k means are written. Assumes nothing.
+-- `rounding::means::write_shifted` meets its contract: after k turns the first k means are written. Assumes nothing.
 use mathlib.Core.Path.{_≡_, _∙_}
 use Prim.Native.Nat.{_-_, _≤_}
 use native.Mathlib.Omega.{arith}
@@ -8,10 +8,10 @@ use mir.Facts.{toZ-ofZ}
 use Rattle.sums.specs.Lists.{at}
 use Rattle.sums.proofs.Bound.{read}
 use Rattle.sums.proofs.Tables.{Written, written-none, written-more, written-length}
-use Rattle.response.specs.Rounding.{rounded}
+use Rattle.rounding.specs.Rounding.{rounded}
 use Rattle.response.proofs.Samples.{sample-fits}
-use Rattle.response.proofs.rounding.write_shifted.Statement.{statement}
-use Rattle.response.proofs.rounding.write_shifted.Tie as tie
+use Rattle.rounding.proofs.means.write_shifted.Statement.{statement}
+use Rattle.rounding.proofs.means.write_shifted.Tie as tie
 
 abbrev Inv-loop : tie.InvT-loop
 Inv-loop r out₀ period divisor shift m k₀ out k = (k ≤ period) × Written k (λ i. rounded (at r i) divisor) out₀ out

@@ -1,4 +1,4 @@
--- `response::rounding::size` meets its contract: what the machine reads back from a number's bits is the number. Assumes nothing.
+-- `rounding::means::size` meets its contract: what the machine reads back from a number's bits is the number. Assumes nothing.
 use mathlib.Core.Path.{_≡_, sym}
 use Prim.Native.Nat.{_+_}
 use native.Mathlib.Omega.{arith}
@@ -10,8 +10,8 @@ use mir.Val.{toZ, ofZ, SFits}
 use mir.ValLaws.{toZ-ofZ}
 use Rattle.sums.proofs.Bound.{is-nonNeg, natAbs-≤}
 use Rattle.sums.proofs.Below.{from-below, size-below}
-use Rattle.response.proofs.rounding.size.Statement.{statement}
-use Rattle.response.proofs.rounding.size.Tie as tie
+use Rattle.rounding.proofs.means.size.Statement.{statement}
+use Rattle.rounding.proofs.means.size.Tie as tie
 
 back : (c : tie.Start) → toZ w64 (ofZ w64 (c .args .z)) ≡ c .args .z
 back c = toZ-ofZ w64 (c .args .z) (c .fits .z)

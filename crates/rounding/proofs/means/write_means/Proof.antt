@@ -1,11 +1,11 @@
--- `response::rounding::write_means` meets its contract, by either way. Assumes nothing.
+-- `rounding::means::write_means` meets its contract, by either way. Assumes nothing.
 use borrow.Author.Needs.{needs}
 use Prim.Native.Nat.{_<_}
 use native.Mathlib.Nat.{div-le-self}
 use native.Mathlib.Omega.{arith}
-use Rattle.response.proofs.Reciprocal.{rest-some, split}
-use Rattle.response.proofs.rounding.write_means.Statement.{statement}
-use Rattle.response.proofs.rounding.write_means.Tie as tie
+use Rattle.rounding.proofs.Reciprocal.{rest-some, split}
+use Rattle.rounding.proofs.means.write_means.Statement.{statement}
+use Rattle.rounding.proofs.means.write_means.Tie as tie
 
 halve-requires : tie.Need-halve-requires
 halve-requires c κs = search needs

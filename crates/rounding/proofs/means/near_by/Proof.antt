@@ -1,9 +1,9 @@
--- `response::rounding::near_by` meets its contract, by the laws of `Reciprocal`. Assumes nothing.
+-- `rounding::means::near_by` meets its contract, by the laws of `Reciprocal`. Assumes nothing.
 use borrow.Author.Needs.{needs}
 use native.Mathlib.Omega.{arith}
-use Rattle.response.proofs.Reciprocal.{sum-fits, product-fits, near-by}
-use Rattle.response.proofs.rounding.near_by.Statement.{statement}
-use Rattle.response.proofs.rounding.near_by.Tie as tie
+use Rattle.rounding.proofs.Reciprocal.{sum-fits, product-fits, near-by}
+use Rattle.rounding.proofs.means.near_by.Statement.{statement}
+use Rattle.rounding.proofs.means.near_by.Tie as tie
 
 mul-x : tie.Need-mul-x
 mul-x c = omega (arith, sum-fits (c .args .a) (c .args .d) (c .args .shift) (c .args .m) (c .pre .0) (c .pre .1))

@@ -1,4 +1,4 @@
--- `response::rounding::mean` meets its contract: what the machine reads back from a number's bits is the number, and `Signs` has the rest.
+-- `rounding::means::mean` meets its contract: what the machine reads back from a number's bits is the number, and `Signs` has the rest.
 -- Assumes nothing.
 use mathlib.Core.Path.{_≡_, ap, _∙_}
 use mathlib.Core.Bool.{true, false}
@@ -10,11 +10,11 @@ use mir.Syntax.{w64}
 use mir.Val.{toZ, ofZ}
 use mir.ValLaws.{toZ-ofZ}
 use Rattle.sums.proofs.Bound.{natAbs-neg, neg-nonNeg, is-nonNeg}
-use Rattle.response.specs.Rounding.{nearest}
-use Rattle.response.proofs.Nearest.{near-le}
-use Rattle.response.proofs.Signs.{as-signed, neg-fits, minus-is, mean-negative, mean-positive}
-use Rattle.response.proofs.rounding.mean.Statement.{statement}
-use Rattle.response.proofs.rounding.mean.Tie as tie
+use Rattle.rounding.specs.Rounding.{nearest}
+use Rattle.rounding.proofs.Nearest.{near-le}
+use Rattle.rounding.proofs.Signs.{as-signed, neg-fits, minus-is, mean-negative, mean-positive}
+use Rattle.rounding.proofs.means.mean.Statement.{statement}
+use Rattle.rounding.proofs.means.mean.Tie as tie
 
 -- r is read back, and so is `-r`
 back-r : (c : tie.Start) → toZ w64 (ofZ w64 (c .args .r)) ≡ c .args .r

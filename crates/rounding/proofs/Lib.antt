@@ -1,0 +1,4 @@
+-- The laws of rounding.
+pub mod Nearest
+mod Signs
+mod Reciprocal
