@@ -4,10 +4,12 @@ use mathlib.Core.Path.{_≡_, refl, sym, ap, _∙_}
 use Prim.Native.Nat.{ℕ, zero, suc, _+_, _*_, _/_, _^_, _≤_, _<_}
 use native.Mathlib.Nat.{mul-comm, mul-assoc, mul-add, add-mul, mul-one, one-mul, mul-right-comm, le-of-lt, mul-le-mul, mul-le-mul-left, mul-le-mul-right, le-of-mul-le-mul-right, lt-of-mul-lt-mul-right, div-mul-le-self, mul-div-le, lt-mul-div-succ, div-eq-of-lt-le, div-div-eq-div-mul, zero-mul, pow-succ'}
 use native.Mathlib.Numerals.{add-one}
+use native.Mathlib.Decide.{decLt}
 use native.Mathlib.Omega.{arith}
+use borrow.Author.Tests.{le-leb, lt-leb}
 use lib.Pow.{pow-pos, pow-mono}
 use Rattle.rounding.specs.Rounding.{nearest}
-use Rattle.rounding.specs.Halving.{Split}
+use Rattle.rounding.specs.Halving.{Split, reciprocal as reciprocalOf}
 
 module _ (K x n : ℕ) (p : 0 < n) (short : x * n < K) where
   -- the reciprocal, and what it comes to
@@ -82,8 +84,8 @@ module _ (d rest times : ℕ) (e : rest * 2 ^ times ≡ d) (p : 0 < d) where
       positive zero q = absurd (omega (arith, zero-mul (2 ^ times)))
       positive (suc n) q = omega arith
 
-  pub split : rest ≤ 64 → times ≤ 16 → Split d (times + 1) (2 ^ 36 / rest + 1)
-  split most low =
+  few-times : rest ≤ 64 → times ≤ 16 → Split d (times + 1) (2 ^ 36 / rest + 1)
+  few-times most low =
       record {
         few = rest;
         some = rest-some;
@@ -92,3 +94,9 @@ module _ (d rest times : ℕ) (e : rest * 2 ^ times ≡ d) (p : 0 < d) where
         whole = ap (λ k. 2 ^ k * rest) (add-one times) ∙ ap (λ z. z * rest) (pow-succ' 2 times) ∙ mul-assoc 2 (2 ^ times) rest ∙ ap (λ z. 2 * z) (mul-comm (2 ^ times) rest ∙ e);
         times = refl;
       }
+
+  pub split : times ≤ 16 → (reciprocalOf rest ≡ 0 → ⊥) → Split d (times + 1) (reciprocalOf rest)
+  split low some = elim (decLt rest 65) [
+    | yes h ↦ rw (le-leb rest 64 (omega arith)) (few-times (omega arith) low)
+    | no h ↦ absurd (some (rw (lt-leb rest 64 (omega arith)) refl))
+  ]

@@ -1,4 +1,4 @@
--- Signed numbers by their signs: what the machine asks of a negation and of a cast, and the rounded mean of each sign. Assumes nothing.
+-- Signed numbers by their signs: what the machine asks of a negation and of a cast, and a size with a sign put to it. Assumes nothing.
 use mathlib.Core.Path.{_≡_, refl}
 use mathlib.Core.Bool.{true, false, true≢false}
 use borrow.Author.Tests.{ltb-true}
@@ -25,14 +25,6 @@ neg-fits (negsuc n) h = record { sfits = h }
 
 pub minus-is : (z : ℤ) → pos 0 -ℤ z ≡ negℤ z
 minus-is z = +ℤ-idl (negℤ z)
-
-pub mean-negative : (z : ℤ) (d : ℕ) → ltZ z (pos 0) ≡ true → negℤ (pos (nearest (natAbs z) d)) ≡ rounded z d
-mean-negative (pos n) d e = absurd (omega (arith, ltb-true n 0 e))
-mean-negative (negsuc n) d e = refl
-
-pub mean-positive : (z : ℤ) (d : ℕ) → ltZ z (pos 0) ≡ false → pos (nearest (natAbs z) d) ≡ rounded z d
-mean-positive (pos n) d e = refl
-mean-positive (negsuc n) d e = absurd (true≢false e)
 
 -- ---- a size with a sign put to it
 

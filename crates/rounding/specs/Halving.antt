@@ -1,6 +1,8 @@
 -- A divisor that is few times a power of two: a quotient by it is a shift, and a product by the reciprocal of the few. Assumes nothing.
 use mathlib.Core.Path.{_≡_}
+use mathlib.Core.Bool.{cond}
 use Prim.Native.Nat.{ℕ, _+_, _*_, _/_, _^_, _≤_, _<_}
+use lib.Dec.{leb}
 use lib.IntN.{ℤ, pos, negsuc, negℤ}
 
 pub record Split (d shift m : ℕ) : Type 0 where
@@ -10,6 +12,10 @@ pub record Split (d shift m : ℕ) : Type 0 where
   pub low : shift ≤ 17
   pub whole : 2 ^ shift * few ≡ 2 * d
   pub times : m ≡ 2 ^ 36 / few + 1
+
+-- 2^36 over this many, and one more; 0 where they are too many
+abbrev pub reciprocal : ℕ → ℕ
+reciprocal rest = cond (leb rest 64) (2 ^ 36 / rest + 1) 0
 
 -- n with the sign of z
 abbrev pub withSign : ℤ → ℕ → ℤ

@@ -1,4 +1,4 @@
-// A quotient rounded to nearest, halves away from zero: the magnitudes are divided, and the sign is put back.
+// A quotient rounded to nearest, halves away from zero: the sizes are divided, and the sign is put back.
 use crate::Halved;
 ghost use mathlib.Core.Path.{_≡_};
 ghost use mathlib.Core.Bool.{false};
@@ -8,7 +8,7 @@ ghost use lib.ListN.{length};
 ghost use Rattle.sums.specs.Lists.{at, table, put};
 ghost use Rattle.response.specs.Calls.{sampleOut};
 ghost use Rattle.rounding.specs.Rounding.{nearest, rounded};
-ghost use Rattle.rounding.specs.Halving.{Split, withSign};
+ghost use Rattle.rounding.specs.Halving.{Split, reciprocal as reciprocalOf, withSign};
 
 // a / d to the nearest, a half going up.
 fn near(a: u64, d: u64) -> u64
@@ -18,33 +18,6 @@ fn near(a: u64, d: u64) -> u64
     let q = a / d;
     let m = a % d;
     if m < d - m { q } else { q + 1 }
-}
-
-// r / d to the nearest, halves away from zero. The least i64 alone is left out.
-pub fn mean(r: i64, d: u64) -> i64
-    requires { ⌜ (0 < d) × (natAbs r < 2 ^ 63) ⌝ }
-    ensures { λ m. ⌜ m ≡ rounded r d ⌝ }
-{
-    if r < 0 {
-        let a = -r;
-        let n = near(a as u64, d) as i64;
-        -n
-    } else {
-        near(r as u64, d) as i64
-    }
-}
-
-// The mean of each of the first `period`, at its place, by division.
-fn write_divided(r: &[i64], out: &mut [i32], period: usize, divisor: u64)
-    requires { ⌜ (period ≤ length (now r)) × (period ≤ length (now out)) × (0 < divisor) ⌝ }
-    requires { ⌜ ((k : ℕ) → k < period → (natAbs (at (now r) k) < 2 ^ 63) × (sampleOut (rounded (at (now r) k) divisor) ≡ false)) ⌝ }
-    ensures { λ _. ⌜ now (out .exit) ≡ put (table period (λ k. rounded (at (now (r .entry)) k) divisor)) (now (out .entry)) ⌝ }
-{
-    let mut k = 0;
-    while k < period {
-        out[k] = mean(r[k], divisor) as i32;
-        k += 1;
-    }
 }
 
 // How often 2 goes into a number, 16 times at most, and what is left of it.
@@ -72,6 +45,17 @@ fn near_by(a: u64, d: u64, shift: u32, m: u64) -> u64
     (x * m) >> 36
 }
 
+// The same by division where m is 0.
+fn near_as(a: u64, d: u64, shift: u32, m: u64) -> u64
+    requires { ⌜ (0 < d) × (nearest a d ≤ 2 ^ 23) × ((m ≡ 0 → ⊥) → Split d shift m) ⌝ }
+    ensures { λ q. ⌜ q ≡ nearest a d ⌝ }
+{
+    if m == 0 {
+        return near(a, d);
+    }
+    near_by(a, d, shift, m)
+}
+
 // The size of a number.
 pub fn size(z: i64) -> u64
     ensures { λ n. ⌜ n ≡ natAbs z ⌝ }
@@ -88,39 +72,55 @@ fn with_sign(z: i64, n: u64) -> i64
     if z < 0 { -b } else { b }
 }
 
-// r / d to the nearest, where that is a sample, by a shift and a product.
-fn mean_by(r: i64, d: u64, shift: u32, m: u64) -> i64
-    requires { ⌜ (Split d shift m) × (natAbs r < 2 ^ 63) × (sampleOut (rounded r d) ≡ false) ⌝ }
-    ensures { λ x. ⌜ x ≡ rounded r d ⌝ }
+// r / d to the nearest, halves away from zero. The least i64 alone is left out.
+pub fn mean(r: i64, d: u64) -> i64
+    requires { ⌜ (0 < d) × (natAbs r < 2 ^ 63) ⌝ }
+    ensures { λ m. ⌜ m ≡ rounded r d ⌝ }
 {
-    with_sign(r, near_by(size(r), d, shift, m))
+    with_sign(r, near(size(r), d))
 }
 
-// The same by a shift and a product.
-fn write_shifted(r: &[i64], out: &mut [i32], period: usize, divisor: u64, shift: u32, m: u64)
-    requires { ⌜ (period ≤ length (now r)) × (period ≤ length (now out)) × (Split divisor shift m) ⌝ }
-    requires { ⌜ ((k : ℕ) → k < period → (natAbs (at (now r) k) < 2 ^ 63) × (sampleOut (rounded (at (now r) k) divisor) ≡ false)) ⌝ }
+// The same where it is a sample, by the shift and the product that are handed in.
+fn mean_as(r: i64, d: u64, shift: u32, m: u64) -> i64
+    requires { ⌜ (0 < d) × (sampleOut (rounded r d) ≡ false) × ((m ≡ 0 → ⊥) → Split d shift m) ⌝ }
+    ensures { λ x. ⌜ x ≡ rounded r d ⌝ }
+{
+    with_sign(r, near_as(size(r), d, shift, m))
+}
+
+// The mean of each of the first `period`, at its place.
+fn write_each(r: &[i64], out: &mut [i32], period: usize, divisor: u64, shift: u32, m: u64)
+    requires { ⌜ (period ≤ length (now r)) × (period ≤ length (now out)) × (0 < divisor) × ((m ≡ 0 → ⊥) → Split divisor shift m) ⌝ }
+    requires { ⌜ ((k : ℕ) → k < period → sampleOut (rounded (at (now r) k) divisor) ≡ false) ⌝ }
     ensures { λ _. ⌜ now (out .exit) ≡ put (table period (λ k. rounded (at (now (r .entry)) k) divisor)) (now (out .entry)) ⌝ }
 {
     let mut k = 0;
     while k < period {
-        out[k] = mean_by(r[k], divisor, shift, m) as i32;
+        out[k] = mean_as(r[k], divisor, shift, m) as i32;
         k += 1;
+    }
+}
+
+// What a quotient by this many is a product by: 0 where they are more than 64.
+fn reciprocal(rest: u64) -> u64
+    requires { ⌜ 0 < rest ⌝ }
+    ensures { λ m. ⌜ m ≡ reciprocalOf rest ⌝ }
+{
+    if rest <= 64 {
+        68719476736 / rest + 1
+    } else {
+        0
     }
 }
 
 // The mean of each of the first `period`, at its place. A divisor that is few times a power of two, as (P+1)·n is, needs no division.
 pub fn write_means(r: &[i64], out: &mut [i32], period: usize, divisor: u64)
     requires { ⌜ (period ≤ length (now r)) × (period ≤ length (now out)) × (0 < divisor) ⌝ }
-    requires { ⌜ ((k : ℕ) → k < period → (natAbs (at (now r) k) < 2 ^ 63) × (sampleOut (rounded (at (now r) k) divisor) ≡ false)) ⌝ }
+    requires { ⌜ ((k : ℕ) → k < period → sampleOut (rounded (at (now r) k) divisor) ≡ false) ⌝ }
     ensures { λ _. ⌜ now (out .exit) ≡ put (table period (λ k. rounded (at (now (r .entry)) k) divisor)) (now (out .entry)) ⌝ }
 {
     let h = halve(divisor);
     let times = h.times;
     let rest = h.rest;
-    if rest <= 64 {
-        write_shifted(r, out, period, divisor, times + 1, 68719476736 / rest + 1);
-        return;
-    }
-    write_divided(r, out, period, divisor);
+    write_each(r, out, period, divisor, times + 1, reciprocal(rest));
 }

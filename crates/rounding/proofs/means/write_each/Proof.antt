@@ -1,4 +1,4 @@
--- `rounding::means::write_shifted` meets its contract: after k turns the first k means are written. Assumes nothing.
+-- `rounding::means::write_each` meets its contract: after k turns the first k means are written. Assumes nothing.
 use mathlib.Core.Path.{_≡_, _∙_}
 use Prim.Native.Nat.{_-_, _≤_}
 use native.Mathlib.Omega.{arith}
@@ -10,8 +10,8 @@ use Rattle.sums.proofs.Bound.{read}
 use Rattle.sums.proofs.Tables.{Written, written-none, written-more, written-length}
 use Rattle.rounding.specs.Rounding.{rounded}
 use Rattle.response.proofs.Samples.{sample-fits}
-use Rattle.rounding.proofs.means.write_shifted.Statement.{statement}
-use Rattle.rounding.proofs.means.write_shifted.Tie as tie
+use Rattle.rounding.proofs.means.write_each.Statement.{statement}
+use Rattle.rounding.proofs.means.write_each.Tie as tie
 
 abbrev Inv-loop : tie.InvT-loop
 Inv-loop r out₀ period divisor shift m k₀ out k = (k ≤ period) × Written k (λ i. rounded (at r i) divisor) out₀ out
@@ -22,32 +22,32 @@ abbrev μ-loop : tie.MeasureT-loop
 loop-holds : tie.Need-loop-holds Inv-loop μ-loop
 loop-holds c = (omega arith, written-none)
 
-mul-mean-by : tie.Need-mul-mean-by Inv-loop μ-loop
-mul-mean-by c = omega arith
+mul-mean-as : tie.Need-mul-mean-as Inv-loop μ-loop
+mul-mean-as c = omega arith
 
-shared-slice-copy-out-mean-by : tie.Need-shared-slice-copy-out-mean-by Inv-loop μ-loop
-shared-slice-copy-out-mean-by c = omega arith
+shared-slice-copy-out-mean-as : tie.Need-shared-slice-copy-out-mean-as Inv-loop μ-loop
+shared-slice-copy-out-mean-as c = omega arith
 
-mean-by-requires : tie.Need-mean-by-requires Inv-loop μ-loop
-mean-by-requires c κs =
+mean-as-requires : tie.Need-mean-as-requires Inv-loop μ-loop
+mean-as-requires c κs =
     let b = c .before .before .before in
     let k = c .before .before .loop .k in
-    (b .pre .0 .2, rw (read w64 (at (b .args .r .now) k) (c .mean-by-arg .given)) (b .pre .1 k (omega arith) .0), rw (read w64 (at (b .args .r .now) k) (c .mean-by-arg .given)) (b .pre .1 k (omega arith) .1))
+    (b .pre .0 .2, rw (read w64 (at (b .args .r .now) k) (c .mean-as-arg .given)) (b .pre .1 k (omega arith)), b .pre .0 .3)
 
 -- the mean is that of the number read, and a sample
-said : (c : tie.After-mean-by Inv-loop μ-loop) → let l = c .before .before .before in
-    c .mean-by .result ≡ rounded (at (l .before .args .r .now) (l .loop .k)) (l .before .args .divisor)
+said : (c : tie.After-mean-as Inv-loop μ-loop) → let l = c .before .before .before in
+    c .mean-as .result ≡ rounded (at (l .before .args .r .now) (l .loop .k)) (l .before .args .divisor)
 said c =
     let l = c .before .before .before in
-    rw (read w64 (at (l .before .args .r .now) (l .loop .k)) (c .before .mean-by-arg .given)) at (c .mean-by .ensures)
+    rw (read w64 (at (l .before .args .r .now) (l .loop .k)) (c .before .mean-as-arg .given)) at (c .mean-as .ensures)
 
-fits : (c : tie.After-mean-by Inv-loop μ-loop) → SFits w32 (c .mean-by .result)
+fits : (c : tie.After-mean-as Inv-loop μ-loop) → SFits w32 (c .mean-as .result)
 fits c =
     let l = c .before .before .before in
-    rw (said c) (sample-fits (rounded (at (l .before .args .r .now) (l .loop .k)) (l .before .args .divisor)) (l .before .pre .1 (l .loop .k) (omega arith) .1))
+    rw (said c) (sample-fits (rounded (at (l .before .args .r .now) (l .loop .k)) (l .before .args .divisor)) (l .before .pre .1 (l .loop .k) (omega arith)))
 
 cast-out : tie.Need-cast-out Inv-loop μ-loop
-cast-out c = rw (read w64 (c .mean-by .result) (c .mean-by .ok)) (fits c)
+cast-out c = rw (read w64 (c .mean-as .result) (c .mean-as .ok)) (fits c)
 
 mul-t14 : tie.Need-mul-t14 Inv-loop μ-loop
 mul-t14 c = omega arith
@@ -64,7 +64,7 @@ loop-less c = omega arith
 loop-again : tie.Need-loop-again Inv-loop μ-loop
 loop-again c = (
   omega arith,
-  written-more (c .before .before .before .loop .inv .1) (omega arith) (rw (read w64 (c .mean-by .result) (c .mean-by .ok)) (toZ-ofZ (fits c) ∙ said c)),
+  written-more (c .before .before .before .loop .inv .1) (omega arith) (rw (read w64 (c .mean-as .result) (c .mean-as .ok)) (toZ-ofZ (fits c) ∙ said c)),
 )
 
 same-length : tie.Need-same-length Inv-loop μ-loop
@@ -73,16 +73,16 @@ same-length c = written-length (c .before .loop .inv .1) (omega arith)
 returns : tie.Need-returns Inv-loop μ-loop
 returns c = let e : c .before .loop .k ≡ c .before .before .args .period = omega arith in rw e at (c .before .loop .inv .1 .is)
 
-pub write-shifted-spec : {M : Type 1} → statement M
-write-shifted-spec =
+pub write-each-spec : {M : Type 1} → statement M
+write-each-spec =
     tie.close
     (tie.spec
     Inv-loop
     μ-loop
     loop-holds
-    mul-mean-by
-    shared-slice-copy-out-mean-by
-    mean-by-requires
+    mul-mean-as
+    shared-slice-copy-out-mean-as
+    mean-as-requires
     cast-out
     mul-t14
     slice-set-from-out
