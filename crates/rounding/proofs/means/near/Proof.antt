@@ -16,13 +16,13 @@ sub-if1 : tie.Need-sub-if1
 sub-if1 c = le-of-lt (mod-lt (c .args .a) (c .pre))
 
 add-result : tie.Need-add-result
-add-result c = omega (arith, near-room _ _ (c .before .pre) (c .if1 .left))
+add-result c = omega (arith, near-room (c .before .args .a) (c .before .args .d) (c .before .pre) (omega arith))
 
 returns : tie.Need-returns
-returns c = near-down _ _ (c .before .pre) (c .if1 .taken)
+returns c = near-down (c .before .args .a) (c .before .args .d) (c .before .pre) (omega arith)
 
 returns-2 : tie.Need-returns-2
-returns-2 c = near-up _ _ (c .before .pre) (c .if1 .left)
+returns-2 c = near-up (c .before .args .a) (c .before .args .d) (c .before .pre) (omega arith)
 
 pub near-spec : {M : Type 1} → statement M
 near-spec = tie.close (tie.spec div-q rem-m sub-if1 add-result returns returns-2)
