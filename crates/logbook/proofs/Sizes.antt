@@ -12,7 +12,7 @@ use lib.Pow.{pow-mono}
 use Rattle.sums.specs.Refusals.{answered, first}
 use Rattle.register.specs.Register.{P}
 use Rattle.records.specs.declared.Campaign.{Campaign}
-use Rattle.campaign.specs.Calls.{responseOutcome}
+use Rattle.trend.specs.Calls.{responseOutcome}
 use Rattle.logbook.specs.Log.{bodyLength, byteAt, mayStand, mayEnd, decoded}
 use Rattle.logbook.specs.Book.{dayLength, logStartChecks, beganOutcome, closedOutcome, Memory, applied}
 use Rattle.logbook.specs.declared.Phase.{Phase}

@@ -5,8 +5,8 @@ pub mod feeding;
 pub mod printing;
 
 use campaign::Entry;
-use campaign::Tally;
 use records::Campaign;
+use trend::Tally;
 
 // The largest order and the most slots that the program takes.
 pub const MOST_ORDER: u32 = 9;
