@@ -8,7 +8,6 @@ use lib.IntN.{ℤ, pos, natAbs, _-ℤ_}
 use lib.ListN.{length}
 use mir.Syntax.{w64}
 use mir.Val.{ofZ, toZ}
-use borrow.Author.Needs.{needs}
 use Rattle.sums.specs.Lists.{at}
 use Rattle.sums.proofs.Bound.{read, natAbs-sub}
 use Rattle.register.specs.Register.{tag as tagOf}
