@@ -1,5 +1,2 @@
--- The laws of a campaign's calls.
-pub mod Bounds
-pub mod Leveling
+-- The laws of the calls that change a campaign.
 pub mod Passing
-mod Scanning

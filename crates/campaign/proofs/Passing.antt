@@ -1,12 +1,12 @@
 -- What the checks of a call have shown where none refuses. Assumes nothing.
 use mathlib.Core.Path.{_≡_, sym, ap, _∙_}
-use mathlib.Core.Bool.{false, cond, _||_}
+use mathlib.Core.Bool.{false, cond}
 use mathlib.Core.List.{List}
 use Prim.Native.Nat.{ℕ, _+_, _-_, _*_, _^_, _≤_, _<_}
 use native.Mathlib.Nat.{mul-le-mul-right, suc-mul}
 use native.Mathlib.Decide.{decLt}
 use native.Mathlib.Omega.{arith}
-use borrow.Author.Tests.{ltb-false, eqb-true, eqb-false, not-false}
+use borrow.Author.Tests.{ltb-false, eqb-true, not-false}
 use lib.Dec.{eqb, ltb}
 use lib.IntN.{ℤ, pos, natAbs}
 use lib.ListN.{length}
@@ -19,14 +19,13 @@ use Rattle.register.specs.Register.{P, Accepted}
 use Rattle.register.specs.Calls.{tapsChecks, tapsAnswer}
 use Rattle.register.proofs.Judged.{accepted-exactly}
 use Rattle.register.proofs.Word.{small}
-use Rattle.response.specs.Calls.{workShort}
 use Rattle.records.specs.Record.{standing, state, daysIn, slot, free}
 use Rattle.records.specs.declared.Campaign.{Campaign}
 use Rattle.records.proofs.Holding.{Filed, Together, holds-together}
 use Rattle.records.proofs.Refiling.{Day, many-none}
 use Rattle.records.proofs.Tallying.{used-standing}
-use Rattle.campaign.specs.Calls.{dayOut, startChecks, enterChecks, withdrawChecks, lowestFree, slotOfDay, responseChecks, summaryChecks}
-use Rattle.campaign.proofs.Bounds.{sum-small}
+use Rattle.records.proofs.Totals.{sum-small}
+use Rattle.campaign.specs.Calls.{dayOut, startChecks, enterChecks, withdrawChecks, lowestFree, slotOfDay}
 
 pub in-day : (d : ℕ) → dayOut d ≡ false → Day d
 in-day d h = let two = or-false (ltb d 1) (ltb 366 d) h in record { first = ltb-false d 1 (two .0); last = ltb-false 366 d (two .1) }
@@ -131,46 +130,3 @@ enters c store sums d y z =
       day = in-day d (p .1 .0);
       long = eqb-true (length y) (P (c .order)) (not-false _ (p .1 .1 .0));
     }
-
--- ---- the rooms of an answer
-
-pub record Answers (c : Campaign) (store sums r mean room : List ℤ) (tags : List ℕ) : Type 0 where
-  pub whole : Together c store sums
-  pub r-long : P (c .order) ≤ length r
-  pub mean-long : P (c .order) ≤ length mean
-  pub room-long : P (c .order) < length room
-  pub tags-long : 2 * P (c .order) ≤ length tags
-  pub some : daysIn c standing ≡ 0 → ⊥
-
-pub work-long : (N : ℕ) (room : List ℤ) (tags : List ℕ) → workShort N room tags ≡ false → (P N < length room) × (2 * P N ≤ length tags)
-work-long N room tags h =
-    let w = or-false (ltb (length room) (P N + 1)) (ltb (length tags) (2 * P N)) h in
-    (omega (arith, ltb-false (length room) (P N + 1) (w .0)), ltb-false (length tags) (2 * P N) (w .1))
-
-pub answers : (c : Campaign) (store sums r mean room : List ℤ) (tags : List ℕ) → first (responseChecks c store sums r mean room tags) ≡ 0
-    → Answers c store sums r mean room tags
-answers c store sums r mean room tags z =
-    let n = P (c .order) in
-    let p = passes (responseChecks c store sums r mean room tags) tt z in
-    let six = or-false (ltb (length r) n || ltb (length mean) n) (workShort (c .order) room tags) (p .1 .0) in
-    let out = or-false (ltb (length r) n) (ltb (length mean) n) (six .0) in
-    let work = work-long (c .order) room tags (six .1) in
-    record {
-      whole = holds-together c store sums .0 (not-false _ (p .0));
-      r-long = ltb-false (length r) n (out .0);
-      mean-long = ltb-false (length mean) n (out .1);
-      room-long = work .0;
-      tags-long = work .1;
-      some = eqb-false (daysIn c standing) 0 (p .1 .1 .0);
-    }
-
-pub record Sums (c : Campaign) (store sums room : List ℤ) (tags : List ℕ) : Type 0 where
-  pub whole : Together c store sums
-  pub room-long : P (c .order) < length room
-  pub tags-long : 2 * P (c .order) ≤ length tags
-
-pub summed : (c : Campaign) (store sums room : List ℤ) (tags : List ℕ) → first (summaryChecks c store sums room tags) ≡ 0 → Sums c store sums room tags
-summed c store sums room tags z =
-    let p = passes (summaryChecks c store sums room tags) tt z in
-    let work = work-long (c .order) room tags (p .1 .0) in
-    record { whole = holds-together c store sums .0 (not-false _ (p .0)); room-long = work .0; tags-long = work .1 }

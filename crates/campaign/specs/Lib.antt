@@ -1,2 +1,2 @@
--- What a reader must believe of a campaign's calls.
+-- What a reader must believe of the calls that change a campaign.
 pub mod Calls

@@ -17,13 +17,7 @@ use records::tables::outside;
 use register::shift::full_period;
 use response::range::some_out;
 ghost use mathlib.Core.Path.{_≡_};
-ghost use mathlib.Core.Bool.{false};
-ghost use mathlib.Core.List.{List, [], _∷_};
-ghost use Prim.Native.Nat.{_≤_};
-ghost use lib.Dec.{eqb, ltb};
-ghost use lib.ListN.{length};
 ghost use Rattle.sums.specs.Refusals.{first};
-ghost use Rattle.records.specs.Record.{together};
 ghost use Rattle.campaign.specs.Calls.{enterChecks, stayedOutcome, judgedOutcome, enterOutcome};
 
 // The first of 15, 10, 5, 7, 11 that refuses an entry, and 0 where none does.

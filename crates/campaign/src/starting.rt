@@ -1,6 +1,5 @@
 // The answer of start.
 use crate::Started;
-use crate::rooms::memory_short;
 use records::Campaign;
 use records::filing::blank;
 use records::slots::clear_samples;
@@ -11,12 +10,20 @@ use response::clear::clear_wide;
 ghost use mathlib.Core.Path.{_≡_};
 ghost use mathlib.Core.Bool.{_||_};
 ghost use mathlib.Core.List.{List, [], _∷_, _++_};
-ghost use Prim.Native.Nat.{_*_};
+ghost use Prim.Native.Nat.{_*_, _≤_};
 ghost use lib.Dec.{ltb};
 ghost use Rattle.sums.specs.Refusals.{first};
 ghost use Rattle.register.specs.Register.{P};
 ghost use Rattle.register.specs.Calls.{tapsChecks};
 ghost use Rattle.campaign.specs.Calls.{slotsOut, startOutcome};
+
+// Whether the store is short of C·P samples, or the sums of P.
+fn memory_short(slots: usize, period: usize, store: usize, sums: usize) -> bool
+    requires { ⌜ (slots ≤ 64) × (period ≤ 65535) ⌝ }
+    ensures { λ r. ⌜ r ≡ ltb store (slots * period) || ltb sums period ⌝ }
+{
+    store < slots * period || sums < period
+}
 
 // The first of 1, 2, 3, 4, 9, 6 that refuses a start with so much memory, and 0 where none does.
 fn start_refusal(order: u32, taps: u32, slots: u32, store: usize, sums: usize) -> u32

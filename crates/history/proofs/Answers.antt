@@ -14,16 +14,17 @@ use Rattle.sums.proofs.First.{accepts}
 use Rattle.register.specs.Register.{P}
 use Rattle.response.specs.Calls.{clearedWide, clearedTags}
 use Rattle.records.specs.Record.{standing, overloaded, dead, daysIn, together, marked}
-use Rattle.campaign.specs.Calls.{enterChecks, withdrawChecks, responseChecks, summaryChecks, railPlace, still, entered, keptOutcome, judgedOutcome, withdrawnOutcome, tally, enterOutcome, withdrawOutcome, countsOutcome, responseOutcome, summaryOutcome, worked, meanAt, levelsOf, divisor, verdictNumber, countsNumber, summaryNumber}
+use Rattle.campaign.specs.Calls.{enterChecks, withdrawChecks, railPlace, still, entered, keptOutcome, judgedOutcome, withdrawnOutcome, enterOutcome, withdrawOutcome, verdictNumber}
+use Rattle.trend.specs.Calls.{responseChecks, summaryChecks, tally, countsOutcome, responseOutcome, summaryOutcome, worked, meanAt, levelsOf, divisor, countsNumber, summaryNumber}
 use Rattle.history.specs.Run.{World, Call, enter, withdraw, counts, response, summary, answer}
 use Rattle.records.specs.declared.Campaign.{Campaign}
 use Rattle.campaign.specs.declared.Entered.{Entered}
 use Rattle.campaign.specs.declared.Withdrawn.{Withdrawn}
-use Rattle.campaign.specs.declared.Counts.{Counts}
-use Rattle.campaign.specs.declared.Counts.the-variants as counted
-use Rattle.campaign.specs.declared.Summary.{Summary}
-use Rattle.campaign.specs.declared.Summary.the-variants as summed
 use Rattle.campaign.specs.declared.Verdict.the-variants as verdict
+use Rattle.trend.specs.declared.Counts.{Counts}
+use Rattle.trend.specs.declared.Counts.the-variants as counted
+use Rattle.trend.specs.declared.Summary.{Summary}
+use Rattle.trend.specs.declared.Summary.the-variants as summed
 use Rattle.history.proofs.Steps.{outcome-cases}
 
 -- a list of checks that has not the number n, nor 0

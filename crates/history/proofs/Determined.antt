@@ -18,8 +18,8 @@ use Rattle.player.specs.declared.Tick.{Tick}
 use Rattle.campaign.specs.declared.Started.{Started}
 use Rattle.campaign.specs.declared.Entered.{Entered}
 use Rattle.campaign.specs.declared.Withdrawn.{Withdrawn}
-use Rattle.campaign.specs.declared.Counts.{Counts}
-use Rattle.campaign.specs.declared.Summary.{Summary}
+use Rattle.trend.specs.declared.Counts.{Counts}
+use Rattle.trend.specs.declared.Summary.{Summary}
 use Rattle.register.proofs.taps.check_taps.Kinds as check-taps-kinds
 use Rattle.register.proofs.taps.check_taps.Reads as check-taps
 use Rattle.defaults.proofs.taps.default_taps.Kinds as default-taps-kinds
@@ -42,12 +42,12 @@ use Rattle.campaign.proofs.entering.enter.Kinds as enter-kinds
 use Rattle.campaign.proofs.entering.enter.Reads as enter
 use Rattle.campaign.proofs.withdrawing.withdraw.Kinds as withdraw-kinds
 use Rattle.campaign.proofs.withdrawing.withdraw.Reads as withdraw
-use Rattle.campaign.proofs.counting.counts.Kinds as counts-kinds
-use Rattle.campaign.proofs.counting.counts.Reads as counts
-use Rattle.campaign.proofs.answering.response.Kinds as response-kinds
-use Rattle.campaign.proofs.answering.response.Reads as response
-use Rattle.campaign.proofs.summing.summary.Kinds as summary-kinds
-use Rattle.campaign.proofs.summing.summary.Reads as summary
+use Rattle.trend.proofs.counting.counts.Kinds as counts-kinds
+use Rattle.trend.proofs.counting.counts.Reads as counts
+use Rattle.trend.proofs.answering.response.Kinds as response-kinds
+use Rattle.trend.proofs.answering.response.Reads as response
+use Rattle.trend.proofs.summing.summary.Kinds as summary-kinds
+use Rattle.trend.proofs.summing.summary.Reads as summary
 
 -- what a contract permits determines what is seen of the result and of the parameters at the end
 abbrev pub Determined : (n : ℕ) (ps : List (PK n)) (r : RK n) (A : Type 0) → Out n ps r

@@ -21,11 +21,12 @@ use Rattle.response.specs.Response as formula
 use Rattle.response.proofs.Linear.{response-ext, response-zero, response-sum}
 use Rattle.response.proofs.Register.{predicted}
 use Rattle.records.specs.Record.{unseen, standing, overloaded, dead, withdrawn, state, stands, daysIn, slot, free, together}
-use Rattle.campaign.specs.Calls.{startOutcome, countsOutcome, responseOutcome, worked}
+use Rattle.campaign.specs.Calls.{startOutcome}
+use Rattle.trend.specs.Calls.{countsOutcome, responseOutcome, worked}
 use Rattle.history.specs.Run.{World, Call, answer, run, made, heard}
 use Rattle.records.specs.declared.Campaign.{Campaign}
-use Rattle.campaign.specs.declared.Counts.the-variants.{Counted}
-use Rattle.campaign.proofs.Bounds.{counts-total}
+use Rattle.trend.specs.declared.Counts.the-variants.{Counted}
+use Rattle.trend.proofs.Bounds.{counts-total}
 use Rattle.records.proofs.Holding.{holds-together}
 use Rattle.records.proofs.Tallying.{slots-as-days}
 use Rattle.records.proofs.Refiling.{Day, day, many-some}

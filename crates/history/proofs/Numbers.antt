@@ -12,7 +12,8 @@ use Rattle.register.specs.Calls.{tapsAnswer}
 use Rattle.response.specs.Response as formula
 use Rattle.rounding.specs.Rounding.{nearest, rounded}
 use Rattle.records.specs.Record.{together, fresh}
-use Rattle.campaign.specs.Calls.{enterOutcome, withdrawOutcome, responseOutcome}
+use Rattle.campaign.specs.Calls.{enterOutcome, withdrawOutcome}
+use Rattle.trend.specs.Calls.{responseOutcome}
 use Rattle.history.specs.Run.{World, enter, withdraw, response, after, answer, run}
 use Rattle.campaign.specs.declared.Verdict.{Verdict}
 use Rattle.campaign.specs.declared.Verdict.the-variants.{Kept, Overloaded, Dead, Refused}

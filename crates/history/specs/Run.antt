@@ -7,7 +7,8 @@ use lib.Dec.{eqb, ltb}
 use lib.IntN.{ℤ}
 use lib.ListN.{length}
 use Rattle.records.specs.Record.{unseen, standing, overloaded, dead, withdrawn}
-use Rattle.campaign.specs.Calls.{railPlace, still, enterOutcome, withdrawOutcome, countsOutcome, responseOutcome, summaryOutcome, verdictNumber, countsNumber, summaryNumber}
+use Rattle.campaign.specs.Calls.{railPlace, still, enterOutcome, withdrawOutcome, verdictNumber}
+use Rattle.trend.specs.Calls.{countsOutcome, responseOutcome, summaryOutcome, countsNumber, summaryNumber}
 use Rattle.records.specs.declared.Campaign.{Campaign}
 
 -- the record and the lent memory that a run is about

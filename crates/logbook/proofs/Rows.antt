@@ -11,7 +11,7 @@ use lib.Pow.{pow-mono}
 use Rattle.sums.specs.Refusals.{answered, first}
 use Rattle.register.specs.Register.{P}
 use Rattle.records.specs.declared.Campaign.{Campaign}
-use Rattle.campaign.specs.Calls.{responseOutcome}
+use Rattle.trend.specs.Calls.{responseOutcome}
 use Rattle.log.specs.declared.Phase.{Phase}
 use Rattle.log.specs.declared.Phase.the-variants as phase
 use Rattle.log.specs.declared.Item.{Item}

@@ -11,13 +11,14 @@ use Rattle.register.specs.Register.{P}
 use Rattle.register.specs.Calls.{tapsChecks}
 use Rattle.records.specs.Record.{fresh}
 use Rattle.records.specs.declared.Campaign.{Campaign}
-use Rattle.campaign.specs.Calls.{slotsOut, startOutcome, enterOutcome, withdrawOutcome, countsOutcome, responseOutcome}
+use Rattle.campaign.specs.Calls.{slotsOut, startOutcome, enterOutcome, withdrawOutcome}
 use Rattle.campaign.specs.declared.Started.{Started}
 use Rattle.campaign.specs.declared.Entered.{Entered}
 use Rattle.campaign.specs.declared.Withdrawn.{Withdrawn}
-use Rattle.campaign.specs.declared.Tally.{Tally}
-use Rattle.campaign.specs.declared.Counts.{Counts}
-use Rattle.campaign.specs.declared.Counts.the-variants as counts
+use Rattle.trend.specs.Calls.{countsOutcome, responseOutcome}
+use Rattle.trend.specs.declared.Tally.{Tally}
+use Rattle.trend.specs.declared.Counts.{Counts}
+use Rattle.trend.specs.declared.Counts.the-variants as counts
 use Rattle.log.specs.declared.Phase.{Phase}
 use Rattle.log.specs.declared.Phase.the-variants as phase
 use Rattle.log.specs.declared.Item.{Item}

@@ -16,13 +16,14 @@ use Rattle.campaign.specs.declared.Verdict.the-variants as verdict
 use Rattle.campaign.specs.declared.Started.{Started}
 use Rattle.campaign.specs.declared.Entered.{Entered}
 use Rattle.campaign.specs.declared.Withdrawn.{Withdrawn}
-use Rattle.campaign.specs.declared.Tally.{Tally}
-use Rattle.campaign.specs.declared.Counts.{Counts}
-use Rattle.campaign.specs.declared.Counts.the-variants as counts
-use Rattle.campaign.specs.declared.Levels.{Levels}
-use Rattle.campaign.specs.declared.Summary.{Summary}
-use Rattle.campaign.specs.declared.Summary.the-variants as summary
-use Rattle.campaign.specs.Calls.{startOutcome, enterOutcome, withdrawOutcome, countsOutcome, responseOutcome, summaryOutcome, verdictNumber, countsNumber, summaryNumber}
+use Rattle.campaign.specs.Calls.{startOutcome, enterOutcome, withdrawOutcome, verdictNumber}
+use Rattle.trend.specs.declared.Tally.{Tally}
+use Rattle.trend.specs.declared.Counts.{Counts}
+use Rattle.trend.specs.declared.Counts.the-variants as counts
+use Rattle.trend.specs.declared.Levels.{Levels}
+use Rattle.trend.specs.declared.Summary.{Summary}
+use Rattle.trend.specs.declared.Summary.the-variants as summary
+use Rattle.trend.specs.Calls.{countsOutcome, responseOutcome, summaryOutcome, countsNumber, summaryNumber}
 
 -- ---- the record
 

@@ -5,12 +5,12 @@ use crate::tables::write_record;
 use crate::verdicts::write_counts;
 use crate::verdicts::write_summary;
 use crate::verdicts::write_verdict;
-use campaign::answering::response;
-use campaign::counting::counts;
 use campaign::entering::enter;
 use campaign::starting::start;
-use campaign::summing::summary;
 use campaign::withdrawing::withdraw;
+use trend::answering::response;
+use trend::counting::counts;
+use trend::summing::summary;
 ghost use mathlib.Core.Path.{_≡_};
 ghost use Rattle.meter.specs.Doors.{startDoor, enterDoor, withdrawDoor, countsDoor, responseDoor, summaryDoor};
 

@@ -1,9 +1,10 @@
 // The cases of a campaign's answers as numbers.
-use campaign::Counts;
-use campaign::Summary;
 use campaign::Verdict;
+use trend::Counts;
+use trend::Summary;
 ghost use mathlib.Core.Path.{_≡_};
-ghost use Rattle.campaign.specs.Calls.{verdictNumber, countsNumber, summaryNumber};
+ghost use Rattle.campaign.specs.Calls.{verdictNumber};
+ghost use Rattle.trend.specs.Calls.{countsNumber, summaryNumber};
 ghost use Rattle.meter.specs.Doors.{verdictState, verdictValue, tallyOut, standsOut, levelsOut};
 
 // The answer; the state that the verdict gives the day, and the verdict's value, where it is lent.

@@ -2,6 +2,7 @@
 pub mod Tests
 pub mod Holding
 pub mod Tallying
+pub mod Totals
 pub mod Refiling
 pub mod Rows
 pub mod Loops

@@ -138,3 +138,7 @@ together c store sums =
     && usedInside c store
     && freeZero c store
     && sumsHold c store sums
+
+-- 15: record does not hold together
+abbrev pub apart : Campaign → List ℤ → List ℤ → Bool
+apart c store sums = not (together c store sums)

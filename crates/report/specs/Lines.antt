@@ -9,9 +9,9 @@ use lib.ListN.{length, take}
 use lib.Signed.{ltZ}
 use Rattle.campaign.specs.Calls.{verdictNumber}
 use Rattle.campaign.specs.declared.Entry.{Entry}
-use Rattle.campaign.specs.declared.Tally.{Tally}
 use Rattle.campaign.specs.declared.Verdict.{Verdict}
 use Rattle.campaign.specs.declared.Verdict.the-variants as verdict
+use Rattle.trend.specs.declared.Tally.{Tally}
 use Rattle.report.specs.declared.Line.{Line}
 use Rattle.report.specs.declared.Line.the-variants as line
 

@@ -2,7 +2,7 @@
 pub mod printing;
 
 use campaign::Entry;
-use campaign::Tally;
+use trend::Tally;
 
 // The line that a record makes.
 pub enum Line {

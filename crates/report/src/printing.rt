@@ -2,9 +2,9 @@
 use crate::Line;
 use crate::Text;
 use campaign::Entry;
-use campaign::Tally;
 use campaign::Verdict;
 use rounding::means::size;
+use trend::Tally;
 ghost use mathlib.Core.Path.{_≡_};
 ghost use mathlib.Core.List.{List, [], _∷_, _++_};
 ghost use Prim.Native.Nat.{_+_, _≤_, _<_};

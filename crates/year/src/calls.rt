@@ -1,12 +1,7 @@
 // Each call with its line.
-use campaign::Counts;
-use campaign::Summary;
 use campaign::Verdict;
-use campaign::answering::response;
-use campaign::counting::counts;
 use campaign::entering::enter;
 use campaign::starting::start;
-use campaign::summing::summary;
 use campaign::withdrawing::withdraw;
 use lines::digest::digest_samples;
 use lines::digest::digest_tags;
@@ -16,6 +11,11 @@ use lines::print::line_end;
 use lines::print::number;
 use lines::print::word;
 use records::Campaign;
+use trend::Counts;
+use trend::Summary;
+use trend::answering::response;
+use trend::counting::counts;
+use trend::summing::summary;
 ghost use mathlib.Core.Path.{_≡_};
 ghost use Prim.Native.Nat.{_≤_};
 ghost use lib.ListN.{length};

@@ -6,8 +6,8 @@ use borrow.Author.Needs.{needs}
 use lib.IntN.{ℤ}
 use Rattle.sums.specs.Refusals.{answered}
 use Rattle.sums.proofs.First.{answered-refused}
-use Rattle.campaign.specs.Calls.{countsOutcome, responseOutcome}
-use Rattle.campaign.specs.declared.Tally.{Tally}
+use Rattle.trend.specs.Calls.{countsOutcome, responseOutcome}
+use Rattle.trend.specs.declared.Tally.{Tally}
 use Rattle.logbook.specs.Book.{dayLength, tallied, asks, askedOutcome}
 use Rattle.logbook.specs.declared.Applied.{Applied}
 use Rattle.logbook.specs.declared.Book.{Book}

@@ -6,9 +6,9 @@ use Prim.Native.Nat.{ℕ}
 use borrow.Author.Needs.{needs}
 use lib.IntN.{ℤ}
 use Rattle.records.specs.declared.Campaign.{Campaign}
-use Rattle.campaign.specs.declared.Tally.{Tally}
-use Rattle.campaign.specs.declared.Counts.{Counts}
-use Rattle.campaign.specs.Calls.{countsOutcome, countsNumber}
+use Rattle.trend.specs.declared.Tally.{Tally}
+use Rattle.trend.specs.declared.Counts.{Counts}
+use Rattle.trend.specs.Calls.{countsOutcome, countsNumber}
 use Rattle.meter.specs.Doors.{tablesShort, recordOf, tallyOut, countedOut, countsDoor}
 use Rattle.meter.proofs.Opening.{shut, through, long}
 use Rattle.meter.proofs.campaigns.meter_counts.Statement.{statement}

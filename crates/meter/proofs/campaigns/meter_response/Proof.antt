@@ -6,7 +6,7 @@ use Prim.Native.Nat.{ℕ}
 use borrow.Author.Needs.{needs}
 use lib.IntN.{ℤ}
 use Rattle.records.specs.declared.Campaign.{Campaign}
-use Rattle.campaign.specs.Calls.{responseOutcome}
+use Rattle.trend.specs.Calls.{responseOutcome}
 use Rattle.meter.specs.Doors.{tablesShort, recordOf, responseDoor}
 use Rattle.meter.proofs.Opening.{shut, through, long}
 use Rattle.meter.proofs.campaigns.meter_response.Statement.{statement}

@@ -6,9 +6,9 @@ use Prim.Native.Nat.{ℕ}
 use borrow.Author.Needs.{needs}
 use lib.IntN.{ℤ}
 use Rattle.records.specs.declared.Campaign.{Campaign}
-use Rattle.campaign.specs.declared.Levels.{Levels}
-use Rattle.campaign.specs.declared.Summary.{Summary}
-use Rattle.campaign.specs.Calls.{summaryOutcome, summaryNumber}
+use Rattle.trend.specs.declared.Levels.{Levels}
+use Rattle.trend.specs.declared.Summary.{Summary}
+use Rattle.trend.specs.Calls.{summaryOutcome, summaryNumber}
 use Rattle.meter.specs.Doors.{tablesShort, recordOf, standsOut, levelsOut, summedOut, summaryDoor}
 use Rattle.meter.proofs.Opening.{shut, through, long}
 use Rattle.meter.proofs.campaigns.meter_summary.Statement.{statement}

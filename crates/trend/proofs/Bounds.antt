@@ -1,0 +1,101 @@
+-- Counts total 366. The mean fits the sample range, and |r| stays below 2^53. Assumes nothing.
+use mathlib.Core.Path.{_≡_, refl}
+use mathlib.Core.Bool.{false, cond}
+use mathlib.Core.List.{List}
+use Prim.Native.Nat.{ℕ, zero, suc, _+_, _*_, _^_, _≤_, _<_}
+use native.Mathlib.Nat.{mul-assoc, mul-le-mul, mul-pos, lt-of-mul-lt-mul-right}
+use native.Mathlib.Omega.{arith}
+use borrow.Author.Tests.{le-ltb}
+use lib.Dec.{eqb}
+use lib.IntN.{ℤ, pos, negsuc, natAbs}
+use Rattle.sums.specs.Sum.{total}
+use Rattle.sums.specs.Lists.{at, many}
+use Rattle.sums.proofs.Bound.{natAbs-neg}
+use Rattle.register.specs.Register.{P}
+use Rattle.register.proofs.Judged.{generator}
+use Rattle.register.proofs.Word.{small}
+use Rattle.rounding.specs.Rounding.{nearest, rounded}
+use Rattle.response.specs.Calls.{sampleOut}
+use Rattle.rounding.proofs.Nearest.{near-nearest}
+use Rattle.response.proofs.Register.{response-bound}
+use Rattle.records.specs.Record.{unseen, standing, overloaded, dead, withdrawn, state, daysIn}
+use Rattle.records.specs.declared.Campaign.{Campaign}
+use Rattle.records.proofs.Holding.{Filed, Together}
+use Rattle.records.proofs.Tallying.{standing-most}
+use Rattle.records.proofs.Totals.{sum-bound}
+use Rattle.trend.specs.Calls.{worked, divisor, meanAt, extremesOf}
+
+-- ---- counts
+
+-- a state is one of the five
+one-of : (q : ℕ) → q ≤ withdrawn
+    → cond (eqb q unseen) 1 0 + cond (eqb q standing) 1 0 + cond (eqb q overloaded) 1 0 + cond (eqb q dead) 1 0 + cond (eqb q withdrawn) 1 0 ≡ 1
+one-of zero h = refl
+one-of (suc zero) h = refl
+one-of (suc (suc zero)) h = refl
+one-of (suc (suc (suc zero))) h = refl
+one-of (suc (suc (suc (suc zero)))) h = refl
+one-of (suc (suc (suc (suc (suc q))))) h = absurd (omega arith)
+
+five : (n : ℕ) (f : ℕ → ℕ) → ((i : ℕ) → i < n → f i ≤ withdrawn)
+    → many n (λ i. eqb (f i) unseen) + many n (λ i. eqb (f i) standing) + many n (λ i. eqb (f i) overloaded) + many n (λ i. eqb (f i) dead)
+    + many n (λ i. eqb (f i) withdrawn)
+    ≡ n
+unfolding many total
+five zero f h = refl
+five (suc n) f h = omega (arith, five n f (λ i l. h i (omega arith)), one-of (f n) (h n (omega arith)))
+
+pub counts-total : (c : Campaign) → Filed c
+    → daysIn c unseen + daysIn c standing + daysIn c overloaded + daysIn c dead + daysIn c withdrawn ≡ 366
+counts-total c f = five 366 (λ i. state c (i + 1)) (f .states)
+
+-- ---- the divisor, (P+1)·n
+
+pub divisor-some : (c : Campaign) → (daysIn c standing ≡ 0 → ⊥) → 0 < divisor c
+divisor-some c n = mul-pos (omega arith) (omega arith)
+
+divisor-most : (c : Campaign) → Filed c → divisor c ≤ 65536 * 64
+divisor-most c f =
+    let period : P (c .order) + 1 ≤ 65536 = omega (arith, small (f .accepted .shaped .most)) in
+    let days : daysIn c standing ≤ 64 = omega (arith, standing-most c f, f .most) in
+    mul-le-mul period days
+
+pub divisor-small : (c : Campaign) → Filed c → divisor c < 2 ^ 53
+divisor-small c f = omega (arith, divisor-most c f)
+
+-- ---- rounding keeps a bound
+
+pub nearest-bound : (a d B : ℕ) → 0 < d → a ≤ B * d → nearest a d ≤ B
+nearest-bound a d B p h =
+    let below : nearest a d * (2 * d) < suc B * (2 * d) = omega (arith, near-nearest a d p .0) in
+    omega (arith, lt-of-mul-lt-mul-right (2 * d) below)
+
+pub rounded-bound : (z : ℤ) (d B : ℕ) → 0 < d → natAbs z ≤ B * d → natAbs (rounded z d) ≤ B
+rounded-bound (pos a) d B p h = nearest-bound a d B p h
+rounded-bound (negsuc a) d B p h = rw natAbs-neg (nearest-bound (suc a) d B p h)
+
+pub size-inside : (z : ℤ) → natAbs z ≤ 8388607 → sampleOut z ≡ false
+size-inside (pos n) h = le-ltb 8388607 n h
+size-inside (negsuc n) h = rw (le-ltb 8388607 n (omega arith))
+
+-- ---- response and mean
+
+module _ (c : Campaign) (store sums : List ℤ) (h : Together c store sums) where
+  pub worked-bound : (k : ℕ) → natAbs (worked c sums k) ≤ divisor c * 8388607
+  worked-bound k =
+      omega (
+        arith,
+        response-bound (c .order) (c .taps) (generator (h .filed .accepted)) (at sums) (daysIn c standing * 8388607) (sum-bound c store sums h) k,
+        mul-assoc (P (c .order) + 1) (daysIn c standing) 8388607,
+      )
+
+  pub worked-small : (k : ℕ) → natAbs (worked c sums k) < 2 ^ 53
+  worked-small k = omega (arith, worked-bound k, divisor-most c (h .filed))
+
+  pub extremes-small : let e = extremesOf (P (c .order)) (worked c sums) in (natAbs (e .highest) < 2 ^ 53) × (natAbs (e .lowest) < 2 ^ 53) × (natAbs (e .peak) < 2 ^ 53)
+  extremes-small = (worked-small _, worked-small _, worked-small _)
+
+  pub mean-fits : (daysIn c standing ≡ 0 → ⊥) → (k : ℕ) → sampleOut (meanAt c sums k) ≡ false
+  mean-fits n k =
+      size-inside (meanAt c sums k)
+      (rounded-bound (worked c sums k) (divisor c) 8388607 (divisor-some c n) (omega (arith, worked-bound k)))

@@ -1,0 +1,5 @@
+-- The laws of what a campaign says.
+pub mod Bounds
+pub mod Leveling
+pub mod Passing
+mod Scanning

@@ -1,0 +1,119 @@
+-- What a campaign says: counts, response and summary, each by one function from all that is handed in to all that is handed back: document 01,
+-- "The campaign", "Refusal numbers", "Order of checks" and "Room". Assumes nothing.
+use mathlib.Core.List.{List, [], _∷_}
+use mathlib.Core.Bool.{Bool, cond, _||_}
+use Prim.Native.Nat.{ℕ, _+_, _*_}
+use lib.Dec.{eqb, ltb}
+use lib.Ieee.{Float, binary64, ofInt, div}
+use lib.IntN.{ℤ, pos, natAbs, _-ℤ_}
+use lib.ListN.{length}
+use lib.Signed.{leZ}
+use Rattle.sums.specs.Lists.{at, table, put, seek, every}
+use Rattle.sums.specs.Refusals.{outcome}
+use Rattle.register.specs.Register.{P, wave}
+use Rattle.response.specs.Response.{response}
+use Rattle.rounding.specs.Rounding.{rounded}
+use Rattle.response.specs.Calls.{workShort, clearedWide, clearedTags}
+use Rattle.records.specs.Record.{unseen, standing, overloaded, dead, withdrawn, daysIn, apart}
+use Rattle.records.specs.declared.Campaign.{Campaign}
+use Rattle.trend.specs.declared.Tally.{Tally}
+use Rattle.trend.specs.declared.Counts.{Counts}
+use Rattle.trend.specs.declared.Counts.the-variants as counts
+use Rattle.trend.specs.declared.Extremes.{Extremes}
+use Rattle.trend.specs.declared.Levels.{Levels}
+use Rattle.trend.specs.declared.Summary.{Summary}
+use Rattle.trend.specs.declared.Summary.the-variants as summary
+
+-- ---- counts: 15
+
+abbrev pub tally : Campaign → Tally
+tally c =
+    record {
+      unseen = daysIn c unseen;
+      standing = daysIn c standing;
+      overloaded = daysIn c overloaded;
+      dead = daysIn c dead;
+      withdrawn = daysIn c withdrawn;
+    }
+
+unfoldable pub countsOutcome : Campaign → List ℤ → List ℤ → Counts
+countsOutcome c store sums = outcome ((15, apart c store sums) ∷ []) counts.Refused (counts.Counted (tally c))
+
+-- ---- response: 15, 6, 14; the answer, r, the mean, the wide room and the tags
+
+abbrev pub responseChecks : Campaign → List ℤ → List ℤ → List ℤ → List ℤ → List ℤ → List ℕ → List (ℕ × Bool)
+responseChecks c store sums r mean room tags =
+    (15, apart c store sums)
+    ∷ (6, ltb (length r) (P (c .order)) || ltb (length mean) (P (c .order)) || workShort (c .order) room tags)
+    ∷ (14, eqb (daysIn c standing) 0)
+    ∷ []
+
+-- r worked from the sums; r over (P+1)·n, n days standing
+abbrev pub worked : Campaign → List ℤ → ℕ → ℤ
+worked c sums = response (P (c .order)) (wave (c .order) (c .taps)) (at sums)
+
+abbrev pub divisor : Campaign → ℕ
+divisor c = (P (c .order) + 1) * daysIn c standing
+
+abbrev pub meanAt : Campaign → List ℤ → ℕ → ℤ
+meanAt c sums k = rounded (worked c sums k) (divisor c)
+
+unfoldable pub responseOutcome : Campaign → List ℤ → List ℤ → List ℤ → List ℤ → List ℤ → List ℕ → ℕ × List ℤ × List ℤ × List ℤ × List ℕ
+responseOutcome c store sums r mean room tags =
+    outcome (responseChecks c store sums r mean room tags) (λ n. (n, r, mean, room, tags)) (
+      0,
+      put (table (P (c .order)) (worked c sums)) r,
+      put (table (P (c .order)) (meanAt c sums)) mean,
+      clearedWide (P (c .order) + 1) room,
+      clearedTags (2 * P (c .order)) tags,
+    )
+
+-- ---- summary: 15, 6, then nothing stands; the levels, the wide room and the tags
+
+-- the first place of the n at which f is at least as large as at every other
+abbrev pub largestAt : ℕ → (ℕ → ℤ) → ℕ
+largestAt n f = seek (λ k. every n (λ i. leZ (f i) (f k))) n 0
+
+-- highest r, lowest r, and r at the peak, the first place of the largest |r|
+abbrev pub extremesOf : ℕ → (ℕ → ℤ) → Extremes
+extremesOf n r =
+    record {
+      highest = r (largestAt n r);
+      lowest = r (largestAt n (λ k. pos 0 -ℤ r k));
+      peak = r (largestAt n (λ k. pos (natAbs (r k))));
+    }
+
+-- the exact whole number made a double and divided once
+unfoldable pub level : ℤ → ℕ → Float
+level z d = div binary64 (ofInt binary64 z) (ofInt binary64 (pos d))
+
+abbrev pub levelsOf : ℕ → (ℕ → ℤ) → ℕ → Levels
+levelsOf n r d =
+    record {
+      highest = level (extremesOf n r .highest) d;
+      lowest = level (extremesOf n r .lowest) d;
+      peak = level (extremesOf n r .peak) d;
+    }
+
+abbrev pub summaryChecks : Campaign → List ℤ → List ℤ → List ℤ → List ℕ → List (ℕ × Bool)
+summaryChecks c store sums room tags = (15, apart c store sums) ∷ (6, workShort (c .order) room tags) ∷ []
+
+unfoldable pub summaryOutcome : Campaign → List ℤ → List ℤ → List ℤ → List ℕ → Summary × List ℤ × List ℕ
+summaryOutcome c store sums room tags =
+    outcome (summaryChecks c store sums room tags) (λ n. (summary.Refused n, room, tags))
+    (cond (eqb (daysIn c standing) 0) (summary.Nothing, room, tags) (
+      summary.Measured (levelsOf (P (c .order)) (worked c sums) (divisor c)),
+      clearedWide (P (c .order) + 1) room,
+      clearedTags (2 * P (c .order)) tags,
+    ))
+
+-- ---- this paper's number for each case of an answer: 0 is accepted
+
+abbrev pub countsNumber : Counts → ℕ
+countsNumber (counts.Counted t) = 0
+countsNumber (counts.Refused n) = n
+
+abbrev pub summaryNumber : Summary → ℕ
+summaryNumber summary.Nothing = 0
+summaryNumber (summary.Measured l) = 0
+summaryNumber (summary.Refused n) = n

@@ -1,0 +1,2 @@
+-- What a reader must believe of what a campaign says.
+pub mod Calls

@@ -1,0 +1,32 @@
+// The answer of counts.
+use crate::Counts;
+use crate::Tally;
+use records::Campaign;
+use records::reread::holds;
+use records::tables::days_in;
+ghost use mathlib.Core.Path.{_≡_};
+ghost use Rattle.trend.specs.Calls.{tally, countsOutcome};
+
+// The days in each of the five states.
+fn tally_of(c: Campaign) -> Tally
+    ensures { λ r. ⌜ r ≡ tally c ⌝ }
+{
+    let days = c.days;
+    Tally {
+        unseen: days_in(&days, 0),
+        standing: days_in(&days, 1),
+        overloaded: days_in(&days, 2),
+        dead: days_in(&days, 3),
+        withdrawn: days_in(&days, 4),
+    }
+}
+
+// The days in each of the five states, refusing 15.
+pub fn counts(c: Campaign, store: &[i32], sums: &[i64]) -> Counts
+    ensures { λ r. ⌜ r ≡ countsOutcome c (now (store .entry)) (now (sums .entry)) ⌝ }
+{
+    if !holds(c, store, sums) {
+        return Counts::Refused(15);
+    }
+    Counts::Counted(tally_of(c))
+}
