@@ -1,4 +1,4 @@
--- What the checks of a call have shown where none refuses. Assumes nothing.
+-- What the checks of a start, an entry and a withdrawal have shown where none refuses. Assumes nothing.
 use mathlib.Core.Path.{_≡_, sym, ap, _∙_}
 use mathlib.Core.Bool.{false, cond}
 use mathlib.Core.List.{List}
