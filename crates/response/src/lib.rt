@@ -1,6 +1,6 @@
 // One recording turned into a response, a recording predicted from one, and the rounding of a mean.
 pub mod clear;
-mod gather;
+pub mod gather;
 mod hear;
 mod prediction;
 pub mod range;
