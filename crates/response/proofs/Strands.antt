@@ -4,7 +4,7 @@ use mathlib.Core.Path.{_≡_, sym, ap, _∙_}
 use mathlib.Core.Logic.{_⊎_, inl, inr, ⊎-elim}
 use Prim.Native.Nat.{ℕ, zero, suc, _+_, _-_, _/_, _^_, _≤_, _<_}
 use native.Mathlib.Nat.{pow-suc, add-zero, add-assoc}
-use native.Mathlib.Decide.{decLt}
+use native.Mathlib.Decide.{decLt, ℕ-discrete}
 use native.Mathlib.Omega.{arith}
 use lib.Pow.{pow-pos}
 use Rattle.register.specs.Register.{P, step, window, tag-step, tag, Tapped}
@@ -31,6 +31,17 @@ forth-more i f m n = ⊎-elim (λ l. inl (omega arith)) (λ l. inr (omega arith)
 
 pub forth-last : {h : ℕ} (i : ℕ) → i < h + h + 1 → (i ≡ h + h → ⊥) → Forth h h i
 forth-last {h} i l n = elim (decLt i h) [ yes m ↦ inl m | no m ↦ inr (omega arith) ]
+
+-- what holds at the places passed and at those of the next turn
+pub forth-turn : {Q : ℕ → Type 0} {h j : ℕ} → ((i : ℕ) → Forth h j i → Q i) → Q j → Q (h + j) → (i : ℕ) → Forth h (j + 1) i → Q i
+forth-turn {Q} {h} {j} all a b i f = elim (ℕ-discrete i j) [
+  | yes e ↦ rw e a
+  | no m ↦ elim (ℕ-discrete i (h + j)) [ yes e ↦ rw e b | no n ↦ all i (forth-more i f m n) ]
+]
+
+-- and at the last
+pub forth-all : {Q : ℕ → Type 0} {h : ℕ} → ((i : ℕ) → Forth h h i → Q i) → Q (h + h) → (i : ℕ) → i < h + h + 1 → Q i
+forth-all {Q} {h} all a i l = elim (ℕ-discrete i (h + h)) [ yes e ↦ rw e a | no n ↦ all i (forth-last i l n) ]
 
 -- ---- backwards: those above k up to h, and those above h + k
 
