@@ -1,59 +1,15 @@
 // Taps: judged by the first return of the tags, which comes after the full period where the register's does, and is looked for at the period over its
 // primes alone.
+use crate::far::tag_at;
 use crate::shift::full_period;
-use crate::shift::tag_step;
 ghost use mathlib.Core.Path.{_≡_};
 ghost use mathlib.Core.Bool.{_&&_};
 ghost use Prim.Native.Nat.{_^_, _≤_, _<_};
 ghost use lib.Dec.{eqb};
 ghost use Rattle.sums.specs.Refusals.{first};
 ghost use Rattle.register.specs.Register.{P, tag as tagOf, Tapped};
-ghost use Rattle.register.specs.Doubling.{moved, joined, prime as primeOf, half as halfOf, returnsAt, returnsEarly};
+ghost use Rattle.register.specs.Doubling.{prime as primeOf, half as halfOf, returnsAt, returnsEarly};
 ghost use Rattle.register.specs.Calls.{shapeChecks, tapsAnswer};
-
-// Of the tags of two delays, the tag of both.
-fn join(order: u32, taps: u32, l: u32, m: u32) -> u32
-    requires { ⌜ (order ≤ 16) × Tapped order taps × (m < 2 ^ order) ⌝ }
-    ensures { λ r. ⌜ r ≡ joined order taps l m order ⌝ }
-{
-    let mut sum = 0;
-    let mut tag = m;
-    let mut rest = l;
-    let mut i = 0;
-    while i < order {
-        sum = sum ^ (rest % 2 * tag);
-        tag = tag_step(order, taps, tag);
-        rest = rest / 2;
-        i += 1;
-    }
-    sum
-}
-
-// A tag, one step on where the bit is set.
-fn step_by(order: u32, taps: u32, tag: u32, bit: u32) -> u32
-    requires { ⌜ (order ≤ 16) × (taps < 2 ^ order) × (tag < 2 ^ order) × (bit < 2) ⌝ }
-    ensures { λ r. ⌜ r ≡ moved order taps bit tag ⌝ }
-{
-    if bit == 0 {
-        tag
-    } else {
-        tag_step(order, taps, tag)
-    }
-}
-
-// The tag of a delay, which is doubled bit by bit from the top.
-fn tag_at(order: u32, taps: u32, m: u32) -> u32
-    requires { ⌜ (order ≤ 16) × Tapped order taps × (m < 2 ^ order) ⌝ }
-    ensures { λ r. ⌜ r ≡ tagOf order taps m ⌝ }
-{
-    let mut tag = 1;
-    let mut k = order;
-    while 0 < k {
-        k -= 1;
-        tag = step_by(order, taps, join(order, taps, tag, tag), (m >> k) % 2);
-    }
-    tag
-}
 
 // Whether the tags return after m steps, where that is asked.
 fn home(order: u32, taps: u32, m: u32, asked: bool) -> bool

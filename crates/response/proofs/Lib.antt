@@ -3,6 +3,7 @@ pub mod Recovery
 pub mod Linear
 pub mod Register
 pub mod Laying
+mod Strands
 pub mod Kernel
 pub mod Samples
 pub mod FastRoute

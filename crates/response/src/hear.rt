@@ -1,5 +1,6 @@
 // The last step of a prediction: the transform read at the windows, in their order.
 use crate::range::sample_out;
+use register::far::window_at;
 use register::shift::full_period;
 use register::shift::step;
 ghost use mathlib.Core.Path.{_≡_};
@@ -8,23 +9,45 @@ ghost use Prim.Native.Nat.{_≤_, _<_};
 ghost use lib.ListN.{length};
 ghost use Rattle.sums.specs.Lists.{at, table, put};
 ghost use Rattle.register.specs.Register.{P, window as windowOf, Accepted};
-ghost use Rattle.response.specs.Calls.{someOut};
+ghost use Rattle.response.specs.Calls.{sampleOut, someOut};
+
+// Whether the sample at a window lies outside the sample range.
+fn heard_out(t: &[i64], window: u32) -> bool
+    requires { ⌜ window < length (now t) ⌝ }
+    ensures { λ r. ⌜ r ≡ sampleOut (at (now (t .entry)) window) ⌝ }
+{
+    sample_out(t[window as usize])
+}
 
 // Whether some of the samples lies outside the sample range.
 pub fn some_heard_out(order: u32, taps: u32, t: &[i64], period: usize) -> bool
     requires { ⌜ (Accepted order taps) × (period ≡ P order) × (period < length (now t)) ⌝ }
     ensures { λ r. ⌜ r ≡ someOut period (λ j. at (now (t .entry)) (windowOf order taps j)) ⌝ }
 {
-    let mut window = full_period(order);
+    let half = period / 2;
+    let mut first = full_period(order);
+    let mut second = window_at(order, taps, half as u32);
     let mut j = 0;
-    while j < period {
-        if sample_out(t[window as usize]) {
+    while j < half {
+        if heard_out(t, first) {
             return true;
         }
-        window = step(order, taps, window);
+        if heard_out(t, second) {
+            return true;
+        }
+        first = step(order, taps, first);
+        second = step(order, taps, second);
         j += 1;
     }
-    false
+    heard_out(t, second)
+}
+
+// The sample at a window, which lies in the sample range.
+fn heard(t: &[i64], window: u32) -> i32
+    requires { ⌜ (window < length (now t)) × (sampleOut (at (now t) window) ≡ false) ⌝ }
+    ensures { λ r. ⌜ r ≡ at (now (t .entry)) window ⌝ }
+{
+    t[window as usize] as i32
 }
 
 // Each sample at its place.
@@ -33,11 +56,16 @@ pub fn write_heard(order: u32, taps: u32, t: &[i64], out: &mut [i32], period: us
     requires { ⌜ someOut period (λ j. at (now t) (windowOf order taps j)) ≡ false ⌝ }
     ensures { λ _. ⌜ now (out .exit) ≡ put (table period (λ j. at (now (t .entry)) (windowOf order taps j))) (now (out .entry)) ⌝ }
 {
-    let mut window = full_period(order);
+    let half = period / 2;
+    let mut first = full_period(order);
+    let mut second = window_at(order, taps, half as u32);
     let mut j = 0;
-    while j < period {
-        out[j] = t[window as usize] as i32;
-        window = step(order, taps, window);
+    while j < half {
+        out[j] = heard(t, first);
+        out[half + j] = heard(t, second);
+        first = step(order, taps, first);
+        second = step(order, taps, second);
         j += 1;
     }
+    out[half + half] = heard(t, second);
 }

@@ -1,6 +1,6 @@
 // One recording turned into a response, and a recording predicted from one.
 pub mod clear;
-mod gather;
+pub mod gather;
 mod hear;
 mod prediction;
 pub mod range;

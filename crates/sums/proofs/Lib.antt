@@ -7,6 +7,7 @@ pub mod Sum
 pub mod Sign
 pub mod Perm
 pub mod Tables
+pub mod Placed
 pub mod First
 pub mod Seek
 pub mod Somewhere

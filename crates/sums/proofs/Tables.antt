@@ -5,10 +5,10 @@ use mathlib.Core.List.{List, [], _∷_, _++_, append-nil}
 use Prim.Native.Nat.{ℕ, zero, suc, _+_, _-_, _≤_, _<_}
 use native.Mathlib.Nat.{not-suc-le-zero, le-of-suc-le-suc, zero-add, suc-add}
 use native.Mathlib.Numerals.{add-one}
-use native.Mathlib.Decide.{decLt, ℕ-discrete}
+use native.Mathlib.Decide.{decLt}
 use native.Mathlib.Omega.{arith}
-use lib.ListN.{length, getD, set, drop, length-append, length-drop, length-set, List·getD-append}
-use lib.Seq.{ext-getD, drop-length, getD-drop, getD-append-add, getD-set-same, getD-set-other}
+use lib.ListN.{length, getD, set, drop, length-append, length-drop, List·getD-append}
+use lib.Seq.{ext-getD, drop-length, getD-drop, getD-append-add}
 use Rattle.sums.specs.Lists.{table, put}
 
 module _ {A : Type 0} where
@@ -96,29 +96,3 @@ module _ {A : Type 0} where
         | yes k ↦ here i k ∙ sym (at-put n f d i z k)
         | no k ↦ let o : n ≤ i = omega arith in tail i o ∙ sym (at-tail n f d i z o)
       ])
-
-  -- ---- written from the back
-
-  -- s is d with f k, …, f (n - 1) at the places k to n - 1
-  pub record Back (z : A) (f : ℕ → A) (n k : ℕ) (d s : List A) : Type 0 where
-    pub long : length s ≡ length d
-    pub here : (i : ℕ) → k ≤ i → i < n → getD s i z ≡ f i
-    pub tail : (i : ℕ) → n ≤ i → getD s i z ≡ getD d i z
-
-  pub back-none : {z : A} {f : ℕ → A} {n : ℕ} {d : List A} → Back z f n n d d
-  back-none = record { long = refl; here = λ i h l. absurd (omega arith); tail = λ i h. refl }
-
-  pub back-more : {z : A} {f : ℕ → A} {n k : ℕ} {d s : List A} {x : A} → Back z f n (suc k) d s → k < n → n ≤ length d → x ≡ f k
-      → Back z f n k d (set s k x)
-  back-more {z} {f} {n} {k} {d} {s} {x} b l room e =
-      record {
-        long = length-set s k x ∙ b .long;
-        here = λ i h m. elim (ℕ-discrete i k) [
-          | yes q ↦ ap (λ j. getD (set s k x) j z) q ∙ getD-set-same s k x z (omega (arith, b .long)) ∙ e ∙ ap f (sym q)
-          | no q ↦ getD-set-other s k i x z q ∙ b .here i (omega arith) m
-        ];
-        tail = λ i h. getD-set-other s k i x z (λ q. omega arith) ∙ b .tail i h;
-      }
-
-  pub back-all : {z : A} {f : ℕ → A} {n : ℕ} {d s : List A} → Back z f n 0 d s → n ≤ length d → s ≡ put (table n f) d
-  back-all {z} {f} {n} {d} {s} b room = by-places z n f d s room (b .long) (λ i l. b .here i (omega arith) l) (b .tail)

@@ -4,6 +4,7 @@ use register::shift::full_period;
 use register::shift::tag_step;
 use response::clear::clear_tags;
 use response::clear::clear_wide;
+use response::gather::reading;
 use response::respond::transform_room;
 use response::spread::spread_wide;
 use rounding::means::size;
@@ -49,14 +50,6 @@ fn larger(old: i64, new: i64) -> i64
     ensures { λ x. ⌜ x ≡ cond (leb (natAbs old) (natAbs new)) new old ⌝ }
 {
     if size(old) <= size(new) { new } else { old }
-}
-
-// What t has at a tag, less what it has at 0.
-fn reading(t: &[i64], tag: u32) -> i64
-    requires { ⌜ (tag < length (now t)) × (natAbs (at (now t) tag) < 2 ^ 62) × (natAbs (at (now t) 0) < 2 ^ 62) ⌝ }
-    ensures { λ x. ⌜ x ≡ at (now (t .entry)) tag -ℤ at (now (t .entry)) 0 ⌝ }
-{
-    t[tag as usize] - t[0]
 }
 
 // The extremes of what stands at the places of the response, read from the last place to the first, so that the first of those that tie is kept.

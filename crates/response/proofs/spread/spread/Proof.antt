@@ -1,60 +1,66 @@
--- `response::spread::spread` meets its contract: after j turns the first j samples are laid out. Assumes nothing.
-use mathlib.Core.Path.{_≡_, _∙_}
-use Prim.Native.Nat.{_+_, _-_, _^_, _≤_, _<_}
+-- `response::spread::spread` meets its contract: after j turns the first j samples of both halves are laid out. Assumes nothing.
+use mathlib.Core.Path.{_≡_, ap, _∙_}
+use Prim.Native.Nat.{_-_, _/_, _≤_, _<_}
 use native.Mathlib.Omega.{arith}
-use lib.IntN.{pos}
-use lib.ListN.{length, length-set}
+use lib.ListN.{length}
+use mir.Syntax.{w64}
 use Rattle.sums.specs.Lists.{at}
-use Rattle.sums.proofs.Bound.{wide, wide-fits}
-use Rattle.register.specs.Register.{P, window as windowOf}
+use Rattle.sums.proofs.Bound.{read}
+use Rattle.register.specs.Register.{P}
 use Rattle.register.proofs.Word.{small}
-use Rattle.register.proofs.Windows.{window-lt, window-next}
-use Rattle.response.proofs.FastRoute.{windows-walk}
-use Rattle.response.proofs.Laying.{SoFar, none-laid, more-laid, all-laid, below-next}
+use Rattle.response.proofs.Laying.{Walked, walked-none, walked-more, walked-all}
+use Rattle.response.proofs.Strands.{odd, windows-lt}
 use Rattle.response.proofs.spread.spread.Statement.{statement}
 use Rattle.response.proofs.spread.spread.Tie as tie
 
 abbrev Inv-loop : tie.InvT-loop
-Inv-loop order taps y room₀ window₀ j₀ room window j =
-    (j ≤ length y) × (window ≡ windowOf order taps j) × SoFar (λ i. i < j) (P order) (windowOf order taps) (at y) room₀ room
+Inv-loop order taps y room₀ half first₀ second₀ j₀ room first second j = Walked order taps half (at y) room₀ j first second room
 
 abbrev μ-loop : tie.MeasureT-loop
-μ-loop order taps y room₀ window₀ j₀ room window j = length y - j
+μ-loop order taps y room₀ half first₀ second₀ j₀ room first second j = half - j
 
 full-period-requires : tie.Need-full-period-requires Inv-loop μ-loop
 full-period-requires c κs = c .pre .0 .shaped .most
 
+cast-window-at : tie.Need-cast-window-at Inv-loop μ-loop
+cast-window-at c = omega (arith, small (c .before .pre .0 .shaped .most))
+
+window-at-requires : tie.Need-window-at-requires Inv-loop μ-loop
+window-at-requires c κs =
+    let p = c .before .pre in
+    (p .0 .shaped .most, p .0 .shaped .tapped, omega (arith, odd (p .0 .shaped .tapped) (p .1 .0)))
+
 loop-holds : tie.Need-loop-holds Inv-loop μ-loop
-unfolding windowOf
-loop-holds c = (omega arith, c .full-period .ensures, none-laid (λ i h l. omega arith))
+loop-holds c = walked-none (c .before .full-period .ensures) (c .window-at .ensures)
 
-mul-room : tie.Need-mul-room Inv-loop μ-loop
-mul-room c = omega arith
+-- the order, and the half of the period
+most : (l : tie.At-loop Inv-loop μ-loop) → l .before .before .before .args .order ≤ 16
+most l = l .before .before .before .pre .0 .shaped .most
 
-shared-slice-copy-out-room : tie.Need-shared-slice-copy-out-room Inv-loop μ-loop
-shared-slice-copy-out-room c = omega arith
+halved : (l : tie.At-loop Inv-loop μ-loop) → let a = l .before .before .before .args in length (a .y .now) / 2 ≡ P (a .order) / 2
+halved l = ap (λ n. n / 2) (l .before .before .before .pre .1 .0)
 
--- the window is one of the register's
-below : (l : tie.At-loop Inv-loop μ-loop) → l .loop .window < 2 ^ l .before .before .args .order
-below l = rw (l .loop .inv .1) (window-lt (l .before .before .args .order) (l .before .before .args .taps) (l .loop .j))
+-- the windows lie in the room
+inside : (l : tie.At-loop Inv-loop μ-loop) → (l .loop .first < length (l .loop .room)) × (l .loop .second < length (l .loop .room))
+inside l = omega (arith, windows-lt (l .loop .inv .windows), l .loop .inv .placed .long)
 
-inside : (l : tie.At-loop Inv-loop μ-loop) → l .loop .window < length (l .loop .room)
-inside l = omega (arith, below l, l .loop .inv .2 .long)
+widened-requires : tie.Need-widened-requires Inv-loop μ-loop
+widened-requires c κs = omega arith
 
-cast-room : tie.Need-cast-room Inv-loop μ-loop
-cast-room c = wide-fits (at (c .before .before .before .before .args .y .now) (c .before .before .loop .j)) (c .room .given)
+add-widened : tie.Need-add-widened Inv-loop μ-loop
+add-widened c = omega arith
 
-cast-t12 : tie.Need-cast-t12 Inv-loop μ-loop
-cast-t12 c = omega (arith, below (c .before .before), small (c .before .before .before .before .pre .0 .shaped .most))
+widened-requires-2 : tie.Need-widened-requires-2 Inv-loop μ-loop
+widened-requires-2 c κs = omega arith
 
-mul-t13 : tie.Need-mul-t13 Inv-loop μ-loop
-mul-t13 c = omega (arith, below (c .before .before), small (c .before .before .before .before .pre .0 .shaped .most))
-
-slice-set-from-room : tie.Need-slice-set-from-room Inv-loop μ-loop
-slice-set-from-room c = inside (c .before .before)
+lay-two-requires : tie.Need-lay-two-requires Inv-loop μ-loop
+lay-two-requires c κs = inside (c .before .before .before .before)
 
 step-requires : tie.Need-step-requires Inv-loop μ-loop
-step-requires c κs = (c .before .before .before .before .pre .0 .shaped .most, below (c .before .before))
+step-requires c κs = let l = c .before .before .before .before .before .before in (most l, windows-lt (l .loop .inv .windows) .0)
+
+step-requires-2 : tie.Need-step-requires-2 Inv-loop μ-loop
+step-requires-2 c κs = let l = c .before .before .before .before .before .before .before in (most l, windows-lt (l .loop .inv .windows) .1)
 
 add-j : tie.Need-add-j Inv-loop μ-loop
 add-j c = omega arith
@@ -64,27 +70,29 @@ loop-less c = omega arith
 
 loop-again : tie.Need-loop-again Inv-loop μ-loop
 loop-again c =
-    let l = c .before .before .before in
-    let a = l .before .before .args in
-    let p = l .before .before .pre in
-    let i = l .loop .inv in
-    let j = l .loop .j in (
-      omega arith,
-      window-next (a .order) (a .taps) j (i .1) (c .step .ensures),
-      more-laid (windows-walk (a .order) (a .taps) (p .0)) (p .1 .1) (λ k. k < j + 1) j (i .2) (omega (arith, p .1 .0)) (i .1) (wide _ (c .before .room .given)) (below-next j) (λ h. omega arith),
-    )
+    let t = c .before .before .before in
+    let l = t .before .before .before .before .before in
+    let p = l .before .before .before .pre in
+    walked-more (p .0) (halved l) (p .1 .1) (l .loop .inv) (omega arith) (read w64 _ (t .before .before .widened .ok) ∙ t .before .before .widened .ensures) (read w64 _ (t .before .widened2 .ok) ∙ t .before .widened2 .ensures) (t .lay-two .ensures) (c .before .step .ensures) (c .step2 .ensures)
 
-slice-set-of-room : tie.Need-slice-set-of-room Inv-loop μ-loop
-slice-set-of-room c = omega (arith, c .before .loop .inv .2 .long)
+add-widened-2 : tie.Need-add-widened-2 Inv-loop μ-loop
+add-widened-2 c = omega arith
+
+widened-requires-3 : tie.Need-widened-requires-3 Inv-loop μ-loop
+widened-requires-3 c κs = let p = c .before .before .before .before .before .pre in omega (arith, odd (p .0 .shaped .tapped) (p .1 .0))
+
+lay-two-requires-2 : tie.Need-lay-two-requires-2 Inv-loop μ-loop
+lay-two-requires-2 c κs = let l = c .before .before .before in (inside l .1, omega (arith, inside l))
 
 same-length : tie.Need-same-length Inv-loop μ-loop
-same-length c = length-set (c .before .loop .room) 0 (pos 0) ∙ c .before .loop .inv .2 .long
+same-length c = c .before .lay-two2 .kept .0 ∙ c .before .before .before .before .before .loop .inv .placed .long
 
 returns : tie.Need-returns Inv-loop μ-loop
 returns c =
-    let b = c .before .before .before in
-    let p = b .pre in
-    all-laid (windows-walk (b .args .order) (b .args .taps) (p .0)) (p .1 .1) (c .before .loop .inv .2) (λ j h. omega (arith, p .1 .0))
+    let t = c .before in
+    let l = t .before .before .before .before in
+    let p = l .before .before .before .pre in
+    walked-all (p .0) (halved l) (p .1 .1) (l .loop .inv) (omega arith) (read w64 _ (t .before .widened3 .ok) ∙ t .before .widened3 .ensures) (t .lay-two2 .ensures)
 
 pub spread-spec : {M : Type 1} → statement M
 spread-spec =
@@ -93,17 +101,20 @@ spread-spec =
     Inv-loop
     μ-loop
     full-period-requires
+    cast-window-at
+    window-at-requires
     loop-holds
-    mul-room
-    shared-slice-copy-out-room
-    cast-room
-    cast-t12
-    mul-t13
-    slice-set-from-room
+    widened-requires
+    add-widened
+    widened-requires-2
+    lay-two-requires
     step-requires
+    step-requires-2
     add-j
     loop-less
     loop-again
-    slice-set-of-room
+    add-widened-2
+    widened-requires-3
+    lay-two-requires-2
     same-length
     returns)

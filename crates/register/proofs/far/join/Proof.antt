@@ -1,4 +1,4 @@
--- `register::taps::join` meets its contract: after i turns the first i bits have been added. Assumes nothing.
+-- `register::far::join` meets its contract: after i turns the first i bits have been added. Assumes nothing.
 use mathlib.Core.Path.{_≡_, refl, sym, ap, ap₂, _∙_}
 use Prim.Native.Nat.{_+_, _-_, _*_, _/_, _%_, _^_, _≤_, _<_}
 use native.Mathlib.Nat.{mod-lt, div-one, div-div-eq-div-mul, zero-lt-suc, pow-suc}
@@ -10,8 +10,8 @@ use Rattle.register.specs.Doubling.{moved, joined}
 use Rattle.register.proofs.Divisors.{moved-lt}
 use Rattle.register.proofs.Windows.{bit-mul}
 use Rattle.register.proofs.Word.{small}
-use Rattle.register.proofs.taps.join.Statement.{statement}
-use Rattle.register.proofs.taps.join.Tie as tie
+use Rattle.register.proofs.far.join.Statement.{statement}
+use Rattle.register.proofs.far.join.Tie as tie
 
 abbrev Inv-loop : tie.InvT-loop
 Inv-loop order taps l m sum₀ tag₀ rest₀ i₀ sum tag rest i = (i ≤ order) × (sum ≡ joined order taps l m i) × (tag ≡ moved order taps i m) × (rest ≡ l / 2 ^ i)

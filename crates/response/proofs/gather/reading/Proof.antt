@@ -1,4 +1,4 @@
--- `trend::sizes::reading` meets its contract: the difference fits. Assumes nothing.
+-- `response::gather::reading` meets its contract: the difference fits. Assumes nothing.
 use borrow.Author.Needs.{needs}
 use mathlib.Core.Path.{ap₂, _∙_}
 use native.Mathlib.Omega.{arith}
@@ -7,8 +7,8 @@ use mir.Syntax.{w64}
 use mir.Facts.{toZ-ofZ}
 use Rattle.sums.specs.Lists.{at}
 use Rattle.sums.proofs.Bound.{small-fits, read, natAbs-sub}
-use Rattle.trend.proofs.sizes.reading.Statement.{statement}
-use Rattle.trend.proofs.sizes.reading.Tie as tie
+use Rattle.response.proofs.gather.reading.Statement.{statement}
+use Rattle.response.proofs.gather.reading.Tie as tie
 
 mul-result : tie.Need-mul-result
 mul-result c = search needs

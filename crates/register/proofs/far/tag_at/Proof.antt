@@ -1,4 +1,4 @@
--- `register::taps::tag_at` meets its contract: the tag is that of the bits passed. Assumes nothing.
+-- `register::far::tag_at` meets its contract: the tag is that of the bits passed. Assumes nothing.
 use mathlib.Core.Path.{_≡_, sym, ap, _∙_}
 use Prim.Native.Nat.{ℕ, _+_, _-_, _*_, _/_, _%_, _^_, _≤_, _<_}
 use native.Mathlib.Nat.{div-one, div-eq-of-lt, div-div-eq-div-mul, pow-suc}
@@ -6,8 +6,8 @@ use native.Mathlib.Omega.{arith}
 use Rattle.register.specs.Register.{tag as tagOf}
 use Rattle.register.proofs.Divisors.{doubled, joined-lt}
 use Rattle.register.proofs.Windows.{tag-lt}
-use Rattle.register.proofs.taps.tag_at.Statement.{statement}
-use Rattle.register.proofs.taps.tag_at.Tie as tie
+use Rattle.register.proofs.far.tag_at.Statement.{statement}
+use Rattle.register.proofs.far.tag_at.Tie as tie
 
 -- the bits down to place k are those down to the next, twice, and one more
 split : (m k : ℕ) → 0 < k → m / 2 ^ k + m / 2 ^ k + m / 2 ^ (k - 1) % 2 ≡ m / 2 ^ (k - 1)

@@ -1,10 +1,10 @@
--- `register::taps::step_by` meets its contract: each return rewrites with the test that led there. Assumes nothing.
+-- `register::far::step_by` meets its contract: each return rewrites with the test that led there. Assumes nothing.
 use mathlib.Core.Path.{_≡_, sym, ap, _∙_}
 use native.Mathlib.Omega.{arith}
 use borrow.Author.Needs.{needs}
 use Rattle.register.specs.Doubling.{moved}
-use Rattle.register.proofs.taps.step_by.Statement.{statement}
-use Rattle.register.proofs.taps.step_by.Tie as tie
+use Rattle.register.proofs.far.step_by.Statement.{statement}
+use Rattle.register.proofs.far.step_by.Tie as tie
 
 tag-step-requires : tie.Need-tag-step-requires
 tag-step-requires c κs = search needs
