@@ -110,8 +110,8 @@ module _ {N taps h : ℕ} where
         }
 
     -- the tag of the whole period, where no turn is left
-    pub tags-last : {last : ℕ} → k ≡ 0 → last ≡ tag-step N taps second → last ≡ tag N taps (h + h + 1)
-    tags-last z e = tag-next N taps t (w .far) (omega arith) e
+    pub tags-last : {n last : ℕ} → n ≡ h + h + 1 → k ≡ 0 → last ≡ tag-step N taps second → last ≡ tag N taps (n - 0)
+    tags-last o z e = tag-next N taps t (w .far) (omega arith) e
 
   -- the turn that is done has read the places h + k and k of the period
   pub tags-read : {n k first second : ℕ} → n ≡ h + h + 1 → 0 < k → Tags N taps h (k - 1) first second

@@ -13,7 +13,8 @@ pub fn reading(t: &[i64], tag: u32) -> i64
     requires { ⌜ (tag < length (now t)) × (natAbs (at (now t) tag) < 2 ^ 62) × (natAbs (at (now t) 0) < 2 ^ 62) ⌝ }
     ensures { λ r. ⌜ r ≡ at (now (t .entry)) tag -ℤ at (now (t .entry)) 0 ⌝ }
 {
-    t[tag as usize] - t[0]
+    let sum = t[0];
+    t[tag as usize] - sum
 }
 
 // At place k, what t has at the tag of the delay P - k, less what it has at 0.

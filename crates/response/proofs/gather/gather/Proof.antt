@@ -37,6 +37,11 @@ fair : (b : tie.Start Inv-loop μ-loop) (w : ℕ) → w < 2 ^ b .args .order
     → (w < length (b .args .t .now)) × (natAbs (at (b .args .t .now) w) < 2 ^ 62) × (natAbs (at (b .args .t .now) 0) < 2 ^ 62)
 fair b w l = (omega (arith, b .pre .0 .1), b .pre .1 .1 w (omega (arith, b .pre .0 .1)), b .pre .1 .1 0 (omega arith))
 
+-- what is read at the tag of a place is the value there
+valued : (b : tie.Start Inv-loop μ-loop) {w : ℕ} (k : ℕ) → w ≡ tagOf (b .args .order) (b .args .taps) (b .args .period - k)
+    → at (b .args .t .now) w -ℤ at (b .args .t .now) 0 ≡ value (b .args .order) (b .args .taps) (b .args .t .now) (b .args .period) k
+valued b k e = ap (λ w. at (b .args .t .now) w -ℤ at (b .args .t .now) 0) e
+
 cast-tag-at : tie.Need-cast-tag-at Inv-loop μ-loop
 cast-tag-at c = omega (arith, small (c .pre .0 .0 .shaped .most))
 
@@ -91,12 +96,14 @@ loop-again c =
     let g = c .before .before in
     let l = g .before .before .before in
     let b = l .before .before in
+    let half = b .args .period / 2 in
     let k = l .loop .k in
+    let to = l .loop .inv .0 .to in
     let n = whole b in
     let t = tags-read n (omega arith) (stepped g) in (
       stepped g,
-      placed-two (λ i j _ _ e. e) (Back (b .args .period / 2) (k - 1)) (b .args .period / 2 + k) k (l .loop .inv .1) (omega (arith, l .loop .inv .0 .to)) (omega (arith, l .loop .inv .0 .to)) (refl, refl)
-          (read w64 _ (c .before .reading .ok) ∙ c .before .reading .ensures ∙ ap (λ w. at (b .args .t .now) w -ℤ at (b .args .t .now) 0) (t .0), read w64 _ (c .reading2 .ok) ∙ c .reading2 .ensures ∙ ap (λ w. at (b .args .t .now) w -ℤ at (b .args .t .now) 0) (t .1))
+      placed-two (λ i j _ _ e. e) (Back half (k - 1)) (half + k) k (l .loop .inv .1) (omega arith) (omega arith) (refl, refl)
+          (read w64 _ (c .before .reading .ok) ∙ c .before .reading .ensures ∙ valued b (half + k) (t .0), read w64 _ (c .reading2 .ok) ∙ c .reading2 .ensures ∙ valued b k (t .1))
           (λ i d _. back-more i d),
     )
 
@@ -109,9 +116,7 @@ last : (c : tie.After-tag-step3 Inv-loop μ-loop) → let a = c .before .before 
 last c =
     let l = c .before .before in
     let b = l .before .before in
-    let n = whole b in
-    let e : b .args .period / 2 + b .args .period / 2 + 1 ≡ b .args .period - 0 = omega arith in
-    tags-last (b .pre .0 .0 .shaped .tapped) (l .loop .inv .0) (omega arith) (c .tag-step3 .ensures) ∙ ap (tagOf (b .args .order) (b .args .taps)) e
+    tags-last (b .pre .0 .0 .shaped .tapped) (l .loop .inv .0) (whole b) (omega arith) (c .tag-step3 .ensures)
 
 reading-requires-3 : tie.Need-reading-requires-3 Inv-loop μ-loop
 reading-requires-3 c κs =
@@ -132,7 +137,7 @@ returns c =
     let n = whole b in
     placed-all
     (placed-more (λ i j _ _ e. e) (λ i. i < b .args .period) 0 (rw e at (l .loop .inv .1)) (omega arith) (omega arith) refl
-    (read w64 _ (c .reading3 .ok) ∙ c .reading3 .ensures ∙ ap (λ w. at (b .args .t .now) w -ℤ at (b .args .t .now) 0) (last (c .before)))
+    (read w64 _ (c .reading3 .ok) ∙ c .reading3 .ensures ∙ valued b 0 (last (c .before)))
     (λ i d _ o. back-last i o))
     (b .pre .1 .0 .1) (λ i d. d)
 

@@ -111,7 +111,7 @@ slice-set-from-out-3 : tie.Need-slice-set-from-out-3 Inv-loop μ-loop
 slice-set-from-out-3 c = omega (arith, c .before .before .loop .inv .1 .long, c .before .before .before .before .before .pre .0 .3, whole (c .before .before .before .before .before))
 
 same-length : tie.Need-same-length Inv-loop μ-loop
-same-length c = length-set (c .before .before .loop .out) (c .before .before .before .before .before .args .period / 2 + c .before .before .before .before .before .args .period / 2) _ ∙ c .before .before .loop .inv .1 .long
+same-length c = simp length-set (c .before .before .loop .inv .1 .long)
 
 returns : tie.Need-returns Inv-loop μ-loop
 returns c =

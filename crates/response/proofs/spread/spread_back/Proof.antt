@@ -1,6 +1,6 @@
 -- `response::spread::spread_back` meets its contract: the values above i of both halves are laid out, and the tags are those of the delays gone
 -- through. Assumes nothing.
-use mathlib.Core.Path.{_≡_, sym, ap, _∙_}
+use mathlib.Core.Path.{_≡_, sym, _∙_}
 use Prim.Native.Nat.{ℕ, _+_, _-_, _/_, _^_, _<_}
 use native.Mathlib.Omega.{arith}
 use lib.IntN.{pos}
@@ -104,10 +104,7 @@ last : (c : tie.After-tag-step3 Inv-loop μ-loop) → let a = c .before .before 
 last c =
     let l = c .before .before .before in
     let b = l .before .before in
-    let half = length (b .args .h .now) / 2 in
-    let n = whole b in
-    let e : half + half + 1 ≡ P (b .args .order) - 0 = omega arith in
-    tags-last (b .pre .0 .shaped .tapped) (l .loop .inv .0) (omega arith) (c .tag-step3 .ensures) ∙ ap (tagOf (b .args .order) (b .args .taps)) e
+    tags-last (b .pre .0 .shaped .tapped) (l .loop .inv .0) (whole b) (omega arith) (c .tag-step3 .ensures)
 
 inside : (c : tie.After-tag-step3 Inv-loop μ-loop) → c .tag-step3 .result < 2 ^ c .before .before .before .before .before .args .order
 inside c =
