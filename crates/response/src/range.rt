@@ -1,5 +1,6 @@
 // The sample range.
 ghost use mathlib.Core.Path.{_≡_};
+ghost use mathlib.Core.Bool.{_||_};
 ghost use lib.ListN.{length};
 ghost use Rattle.sums.specs.Lists.{at};
 ghost use Rattle.response.specs.Calls.{sampleOut, someOut};
@@ -11,16 +12,21 @@ pub fn sample_out(x: i64) -> bool
     x < crate::LOWEST_SAMPLE || crate::HIGHEST_SAMPLE < x
 }
 
-// Whether some value lies outside it.
+fn either(a: bool, b: bool) -> bool
+    ensures { λ r. ⌜ r ≡ a || b ⌝ }
+{
+    a || b
+}
+
+// Whether some value lies outside it. Every value is looked at, so that the compiler looks at many at a time.
 pub fn some_out(y: &[i32]) -> bool
     ensures { λ r. ⌜ r ≡ someOut (length (now (y .entry))) (at (now (y .entry))) ⌝ }
 {
+    let mut out = false;
     let mut j = 0;
     while j < y.len() {
-        if sample_out(y[j] as i64) {
-            return true;
-        }
+        out = either(out, sample_out(y[j] as i64));
         j += 1;
     }
-    false
+    out
 }

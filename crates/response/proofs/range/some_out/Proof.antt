@@ -1,22 +1,21 @@
--- `response::range::some_out` meets its contract: none of the values passed is out of the range. Assumes nothing.
-use mathlib.Core.Path.{_≡_, refl, sym, ap, _∙_}
-use mathlib.Core.Bool.{false}
+-- `response::range::some_out` meets its contract: of the values passed it is known whether one is out of the range. Assumes nothing.
+use mathlib.Core.Path.{_≡_, refl, ap, ap₂, _∙_}
+use mathlib.Core.Bool.{_||_}
 use Prim.Native.Nat.{_≤_, _-_}
 use native.Mathlib.Numerals.{add-one}
 use native.Mathlib.Omega.{arith}
 use lib.ListN.{length}
 use Rattle.sums.specs.Lists.{at, some}
 use Rattle.sums.proofs.Bound.{wide, wide-fits}
-use Rattle.sums.proofs.Somewhere.{some-at, some-past}
 use Rattle.response.specs.Calls.{sampleOut, someOut}
 use Rattle.response.proofs.range.some_out.Statement.{statement}
 use Rattle.response.proofs.range.some_out.Tie as tie
 
 abbrev Inv-loop : tie.InvT-loop
-Inv-loop y j₀ j = (j ≤ length y) × (someOut j (at y) ≡ false)
+Inv-loop y out₀ j₀ out j = (j ≤ length y) × (out ≡ someOut j (at y))
 
 abbrev μ-loop : tie.MeasureT-loop
-μ-loop y j₀ j = length y - j
+μ-loop y out₀ j₀ out j = length y - j
 
 loop-holds : tie.Need-loop-holds Inv-loop μ-loop
 unfolding some
@@ -41,11 +40,8 @@ tested c =
     c .sample-out .ensures
     ∙ ap sampleOut (wide (at (c .before .before .before .before .args .y .now) (c .before .before .before .loop .j)) (c .before .sample-out-arg .given))
 
-returns : tie.Need-returns Inv-loop μ-loop
-returns c =
-    let y = c .before .before .before .before .before .args .y .now in
-    let j = c .before .before .before .before .loop .j in
-    sym (some-at (λ i. sampleOut (at y i)) (length y) j (omega arith) (sym (tested (c .before)) ∙ c .if1 .taken))
+either-requires : tie.Need-either-requires Inv-loop μ-loop
+either-requires c κs = tt
 
 add-j : tie.Need-add-j Inv-loop μ-loop
 add-j c = omega arith
@@ -54,16 +50,16 @@ loop-less : tie.Need-loop-less Inv-loop μ-loop
 loop-less c = omega arith
 
 loop-again : tie.Need-loop-again Inv-loop μ-loop
+unfolding some
 loop-again c =
-    let y = c .before .before .before .before .before .args .y .now in
-    let j = c .before .before .before .before .loop .j in
-    (omega arith, rw add-one (some-past (λ i. sampleOut (at y i)) j (sym (tested (c .before)) ∙ c .if1 .left) (c .before .before .before .before .loop .inv .1)))
+    let t = c .before in
+    (omega arith, rw add-one (c .either .ensures ∙ ap₂ _||_ (t .before .before .before .loop .inv .1) (tested t)))
 
-returns-2 : tie.Need-returns-2 Inv-loop μ-loop
-returns-2 c =
+returns : tie.Need-returns Inv-loop μ-loop
+returns c =
     let y = c .before .before .args .y .now in
     let e : c .before .loop .j ≡ length y = omega arith in
-    sym (rw e at (c .before .loop .inv .1))
+    rw e at (c .before .loop .inv .1)
 
 pub some-out-spec : {M : Type 1} → statement M
 some-out-spec =
@@ -76,8 +72,8 @@ some-out-spec =
     shared-slice-copy-out-sample-out
     cast-sample-out
     sample-out-requires
-    returns
+    either-requires
     add-j
     loop-less
     loop-again
-    returns-2)
+    returns)
