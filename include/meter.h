@@ -49,7 +49,7 @@ uint32_t meter_player_play(uint32_t *order, uint32_t *taps, uint32_t *window, ui
 uint32_t meter_recording(uint32_t order, uint32_t taps, const int32_t *y, size_t y_len, int64_t *out, size_t out_len,
                          int64_t *room, size_t room_len, uint16_t *tags, size_t tags_len);
 
-/* The recording predicted from a response of P samples: 1 to 8. It uses half a megabyte of stack. */
+/* The recording predicted from a response of P samples: 1 to 8. It uses up to half a megabyte of stack. */
 uint32_t meter_predict(uint32_t order, uint32_t taps, const int32_t *h, size_t h_len, int32_t *out, size_t out_len);
 
 /* ---- a campaign: the record is order, taps and slot_count, which no call changes, and the two tables `days` (366) and `slots` (64).

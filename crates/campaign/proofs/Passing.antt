@@ -21,7 +21,7 @@ use Rattle.register.proofs.Judged.{accepted-exactly}
 use Rattle.register.proofs.Word.{small}
 use Rattle.records.specs.Record.{standing, state, daysIn, slot, free}
 use Rattle.records.specs.declared.Campaign.{Campaign}
-use Rattle.records.proofs.Holding.{Filed, Together, holds-together}
+use Rattle.records.proofs.Holding.{Filed, Together, not-apart}
 use Rattle.records.proofs.Refiling.{Day, many-none}
 use Rattle.records.proofs.Tallying.{used-standing}
 use Rattle.records.proofs.Totals.{sum-small}
@@ -113,7 +113,7 @@ pub record Withdraws (c : Campaign) (store sums : List ℤ) (d : ℕ) : Type 0 w
 pub withdraws : (c : Campaign) (store sums : List ℤ) (d : ℕ) → first (withdrawChecks c store sums d) ≡ 0 → Withdraws c store sums d
 withdraws c store sums d z =
     let p = passes (withdrawChecks c store sums d) tt z in
-    let t = holds-together c store sums .0 (not-false _ (p .0)) in
+    let t = not-apart c store sums (p .0) in
     let r = in-day d (p .1 .0) in
     record { whole = t; day = r; inside = slot-of-day c (t .filed) d r (eqb-true (state c d) standing (not-false _ (p .1 .1 .0))) .0 }
 
@@ -126,7 +126,7 @@ pub enters : (c : Campaign) (store sums : List ℤ) (d : ℕ) (y : List ℤ) →
 enters c store sums d y z =
     let p = passes (enterChecks c store sums d y) tt z in
     record {
-      whole = holds-together c store sums .0 (not-false _ (p .0));
+      whole = not-apart c store sums (p .0);
       day = in-day d (p .1 .0);
       long = eqb-true (length y) (P (c .order)) (not-false _ (p .1 .1 .0));
     }

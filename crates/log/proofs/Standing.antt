@@ -56,7 +56,7 @@ module _ (p : Phase) (P k : ℕ) (rest : List ℕ) (ended : Bool) where
   pub cut-body : mayStand p P k ≡ true → length rest < bodyLength k → decoded p P (k ∷ rest) true ≡ found.Bad
   cut-body m h = sym (short p P (k ∷ rest) true (λ e. omega arith) m (omega arith))
 
--- a second start; a day's records outside a day; a withdrawal, a question or another day in an open day
+-- a second start; a sample beyond P
 pub second-start : (P : ℕ) (rest : List ℕ) (ended : Bool) → decoded phase.Between P (1 ∷ rest) ended ≡ found.Bad
 second-start P rest ended = misplaced phase.Between P 1 rest ended refl
 

@@ -1,4 +1,4 @@
--- The doors of the register: a player crosses as its four numbers, and an answer's case as its number beside what is lent for its value, which
+-- The doors of the register, the default taps and the player: a player crosses as its four numbers, and an answer's case as its number beside what is lent for its value, which
 -- a refusal leaves as it was. Assumes nothing.
 use mathlib.Core.List.{List}
 use Prim.Native.Nat.{ℕ}
@@ -12,26 +12,32 @@ use Rattle.player.specs.declared.Tick.{Tick}
 use Rattle.player.specs.declared.Tick.the-variants as tick
 use Rattle.player.specs.declared.Stepped.{Stepped}
 use Rattle.player.specs.declared.Played.{Played}
-use Rattle.defaults.specs.Calls.{defaultOutcome}
-use Rattle.player.specs.Calls.{newOutcome, stepOutcome, playOutcome, tickNumber}
+use Rattle.defaults.specs.Calls.{defaultOutcome, defaultNumber}
+use Rattle.player.specs.Calls.{newOutcome, stepOutcome, playOutcome, newNumber, tickNumber}
 
 abbrev pub playerOf : ℕ → ℕ → ℕ → ℕ → Player
 playerOf N taps window count = record { order = N; taps = taps; window = window; count = count }
 
 -- ---- default taps: the answer and the taps
 
+abbrev pub tapsOf : ℕ → DefaultTaps → ℕ
+tapsOf was (default.Taps taps) = taps
+tapsOf was (default.Refused n) = was
+
 abbrev pub defaultOut : ℕ → DefaultTaps → ℕ × ℕ
-defaultOut was (default.Taps taps) = (0, taps)
-defaultOut was (default.Refused n) = (n, was)
+defaultOut was d = (defaultNumber d, tapsOf was d)
 
 abbrev pub defaultDoor : ℕ → ℕ → ℕ × ℕ
 defaultDoor N was = defaultOut was (defaultOutcome N)
 
 -- ---- new player: the answer and the player
 
+abbrev pub madeOf : Player → NewPlayer → Player
+madeOf was (new.Ready p) = p
+madeOf was (new.Refused n) = was
+
 abbrev pub newOut : Player → NewPlayer → ℕ × Player
-newOut was (new.Ready p) = (0, p)
-newOut was (new.Refused n) = (n, was)
+newOut was n = (newNumber n, madeOf was n)
 
 abbrev pub newDoor : ℕ → ℕ → Player → ℕ × Player
 newDoor N taps was = newOut was (newOutcome N taps)

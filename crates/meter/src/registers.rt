@@ -1,4 +1,4 @@
-// The doors of the register: taps, sequence, player. A player crosses as its four numbers.
+// The doors of the register, the default taps and the player. A player crosses as its four numbers.
 use defaults::DefaultTaps;
 use defaults::taps::default_taps;
 use player::NewPlayer;

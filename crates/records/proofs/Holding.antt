@@ -1,12 +1,12 @@
 -- Holding together, as a fact for each clause: the test of the specification holds exactly where these facts do. Assumes nothing.
 use mathlib.Core.Path.{_≡_, ap}
 use mathlib.Core.Logic.{_↔_}
-use mathlib.Core.Bool.{Bool, true, not, _&&_, _||_}
+use mathlib.Core.Bool.{Bool, true, false, not, _&&_, _||_}
 use mathlib.Core.List.{List}
 use Prim.Native.Nat.{ℕ, _+_, _*_, _≤_, _<_}
 use native.Mathlib.Decide.{decLt, ℕ-discrete}
 use native.Mathlib.Omega.{arith}
-use borrow.Author.Tests.{leb-true, eqb-true, le-leb, lt-ltb, le-ltb, eq-eqb, ne-eqb}
+use borrow.Author.Tests.{leb-true, eqb-true, le-leb, lt-ltb, le-ltb, eq-eqb, ne-eqb, not-false}
 use lib.Dec.{eqb, ltb, leb}
 use lib.IntN.{ℤ, pos}
 use lib.ListN.{length}
@@ -15,7 +15,7 @@ use Rattle.sums.proofs.Everywhere.{and-true, both-true, every-at, every-all}
 use Rattle.register.specs.Register.{P, Accepted}
 use Rattle.register.specs.Calls.{tapsAnswer}
 use Rattle.register.proofs.Judged.{accepted-exactly}
-use Rattle.records.specs.Record.{standing, withdrawn, state, stands, slot, free, sample, usedTotal, inside, eqZ, tapsHold, slotsHold, statesHold, pastFree, roomHolds, slotsStand, oneSlot, usedInside, freeZero, sumsHold, together}
+use Rattle.records.specs.Record.{standing, withdrawn, state, stands, slot, free, sample, usedTotal, inside, eqZ, tapsHold, slotsHold, statesHold, pastFree, roomHolds, slotsStand, oneSlot, usedInside, freeZero, sumsHold, together, apart}
 use Rattle.records.specs.declared.Campaign.{Campaign}
 use Rattle.records.proofs.Tests.{eqZ-same, eqZ-is, or-right, or-left-true, or-right-true}
 
@@ -157,3 +157,6 @@ module _ (c : Campaign) (store sums : List ℤ) where
 
   pub holds-together : (together c store sums ≡ true) ↔ Together c store sums
   holds-together = (to, from)
+
+  pub not-apart : apart c store sums ≡ false → Together c store sums
+  not-apart e = to (not-false (together c store sums) e)

@@ -5,12 +5,6 @@ pub mod slots;
 mod stored;
 pub mod tables;
 
-// A year of nights.
-pub const DAYS: usize = 366;
-
-// The largest number of slots.
-pub const MOST_SLOTS: usize = 64;
-
 // A day's state is 0 unseen, 1 standing, 2 overloaded, 3 dead, 4 withdrawn; a slot holds its day, or 0 where it is free.
 pub struct Campaign {
     pub order: u32,

@@ -18,7 +18,7 @@ use Rattle.sums.proofs.Seek.{First}
 use Rattle.sums.proofs.Somewhere.{some-none, some-at}
 use Rattle.sums.proofs.Sum.{total-ext}
 use Rattle.register.specs.Register.{P, bitOf, dot, step, tag-step, tag, Tapped}
-use Rattle.register.specs.Doubling.{moved, joined, prime, half, returnsAt, returnsEarly}
+use Rattle.register.specs.Doubling.{moved, joined, prime, rootBound, returnsAt, returnsEarly}
 use Rattle.register.proofs.Dot.{dot-lt, dot-zero, dot-one, dot-xor, dot-times}
 use Rattle.register.proofs.Windows.{step-lt, tag-lt, tag-step-lt, adjoint, bit-mul}
 use Rattle.register.proofs.Factors.{whole, times, proper, other, back, one-small, smaller, Factor, prime-large, prime-or}
@@ -137,10 +137,10 @@ module _ (N taps : ℕ) (t : Tapped N taps) where
       let s : suc q * d + r ≡ (q * d + r) + d = omega (arith, suc-mul q d) in
       ap (tag N taps) s ∙ rounds d e (q * d + r) ∙ many-rounds d e q r
 
-  pub half-le : half N ≤ 2 ^ N
-  half-le = let e : (N + 1) / 2 ≤ N = omega (arith, t .some) in pow-mono e
+  pub root-bound-le : rootBound N ≤ 2 ^ N
+  root-bound-le = let e : (N + 1) / 2 ≤ N = omega (arith, t .some) in pow-mono e
 
-  square : 2 ^ N ≤ half N * half N
+  square : 2 ^ N ≤ rootBound N * rootBound N
   square =
       let h = (N + 1) / 2 in
       let e : N ≤ h + h = omega arith in
@@ -196,9 +196,9 @@ module _ (N taps : ℕ) (t : Tapped N taps) where
 
   -- a divisor below P at which they return is found
   found : (d : ℕ) → 0 < d → d < P N → P N % d ≡ 0 → tag N taps d ≡ 1 → returnsEarly N taps ≡ true
-  found d p l z e = elim (decLt (h .it) (half N)) [
-    | yes s ↦ some-at (λ i. returnsAt N taps (i + 1)) (half N - 1) (h .it - 1) (omega (arith, h .some)) (ap (returnsAt N taps) (back-one (h .it) (h .some)) ∙ here)
-    | no s ↦ some-at (λ i. returnsAt N taps (i + 1)) (half N - 1) (g - 1) (small s) (ap (returnsAt N taps) (back-one g most) ∙ there)
+  found d p l z e = elim (decLt (h .it) (rootBound N)) [
+    | yes s ↦ some-at (λ i. returnsAt N taps (i + 1)) (rootBound N - 1) (h .it - 1) (omega (arith, h .some)) (ap (returnsAt N taps) (back-one (h .it) (h .some)) ∙ here)
+    | no s ↦ some-at (λ i. returnsAt N taps (i + 1)) (rootBound N - 1) (g - 1) (small s) (ap (returnsAt N taps) (back-one g most) ∙ there)
   ]
     where
       h : Home
@@ -213,7 +213,7 @@ module _ (N taps : ℕ) (t : Tapped N taps) where
       back-one : (k : ℕ) → 0 < k → k - 1 + 1 ≡ k
       back-one k a = omega arith
 
-      small : (h .it < half N → ⊥) → P N / h .it - 1 < half N - 1
+      small : (h .it < rootBound N → ⊥) → P N / h .it - 1 < rootBound N - 1
       small s = omega (arith, most, one-small (P N) (h .it) some-steps (h .divides) (omega (arith, square, pow-pos N)) s)
 
       here : returnsAt N taps (h .it) ≡ true
@@ -226,7 +226,7 @@ module _ (N taps : ℕ) (t : Tapped N taps) where
 
   -- what is found there is a return before P
   no-divisor : ((k : ℕ) → 0 < k → k < P N → tag N taps k ≡ 1 → ⊥) → returnsEarly N taps ≡ false
-  no-divisor away = some-none (λ i. returnsAt N taps (i + 1)) (half N - 1) (λ i _. none (i + 1) (omega arith))
+  no-divisor away = some-none (λ i. returnsAt N taps (i + 1)) (rootBound N - 1) (λ i _. none (i + 1) (omega arith))
     where
       none : (d : ℕ) → 0 < d → returnsAt N taps d ≡ false
       none d p = and-off (eqb (P N % d) 0) _ (λ z. ap₂ _||_ (low (eqb-true (P N % d) 0 z)) (high (eqb-true (P N % d) 0 z)))

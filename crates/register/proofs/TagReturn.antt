@@ -1,5 +1,5 @@
 -- The tags first return after P steps exactly where the register first returns to all ones after P steps, so taps may be judged by the tags,
--- whose step is the cheaper. Assumes nothing.
+-- of which any one is got by doubling (Divisors). Assumes nothing.
 use mathlib.Core.Path.{_≡_, refl, sym, ap, _∙_}
 use mathlib.Core.Logic.{_↔_}
 use Prim.Native.Nat.{ℕ, zero, suc, _+_, _-_, _%_, _^_, _≤_, _<_}

@@ -1,4 +1,5 @@
--- The tag of a delay, got by doubling; and whether the tags return before P steps, looked for at P over each of its primes alone. Assumes nothing.
+-- The tag of a delay, got by doubling; and whether the tags return before P steps, looked for at P over each of its
+-- primes alone: as the contracts of the taps check's own functions cite them; no public call's does. Assumes nothing.
 use mathlib.Core.Bool.{Bool, _&&_, _||_}
 use Prim.Native.Nat.{ℕ, zero, suc, _+_, _-_, _*_, _/_, _%_, _^_}
 use lib.Bits.{bitXor}
@@ -16,7 +17,7 @@ unfoldable pub joined : ℕ → ℕ → ℕ → ℕ → ℕ → ℕ
 joined N taps l m zero = 0
 joined N taps l m (suc i) = bitXor (joined N taps l m i) (bitOf l i * moved N taps i m)
 
--- the first number from 2 on that divides q, sought below it; a prime has none
+-- the first number from 2 on that divides q; q itself where none below it does
 unfoldable pub leastFactor : ℕ → ℕ
 leastFactor q = seek (λ e. eqb (q % e) 0) (q - 2) 2
 
@@ -28,8 +29,9 @@ abbrev pub returnsAt : ℕ → ℕ → ℕ → Bool
 returnsAt N taps d = eqb (P N % d) 0 && (prime (P N / d) && eqb (tag N taps d) 1 || prime d && eqb (tag N taps (P N / d)) 1)
 
 -- one of two divisors that go together has at most half the order's bits, rounded up
-abbrev pub half : ℕ → ℕ
-half N = 2 ^ ((N + 1) / 2)
+abbrev pub rootBound : ℕ → ℕ
+rootBound N = 2 ^ ((N + 1) / 2)
 
+-- whether they return after P over some prime
 abbrev pub returnsEarly : ℕ → ℕ → Bool
-returnsEarly N taps = some (half N - 1) (λ i. returnsAt N taps (i + 1))
+returnsEarly N taps = some (rootBound N - 1) (λ i. returnsAt N taps (i + 1))

@@ -8,7 +8,7 @@ ghost use Prim.Native.Nat.{_^_, _≤_, _<_};
 ghost use lib.Dec.{eqb};
 ghost use Rattle.sums.specs.Refusals.{first};
 ghost use Rattle.register.specs.Register.{P, tag as tagOf, Tapped};
-ghost use Rattle.register.specs.Doubling.{prime as primeOf, half as halfOf, returnsAt, returnsEarly};
+ghost use Rattle.register.specs.Doubling.{prime as primeOf, rootBound as rootBoundOf, returnsAt, returnsEarly};
 ghost use Rattle.register.specs.Calls.{shapeChecks, tapsAnswer};
 
 // Whether the tags return after m steps, where that is asked.
@@ -50,9 +50,9 @@ fn returns_at(order: u32, taps: u32, whole: u32, d: u32) -> bool
 }
 
 // Of two divisors that go together one is below this.
-fn half(order: u32) -> u32
+fn root_bound(order: u32) -> u32
     requires { ⌜ order ≤ 16 ⌝ }
-    ensures { λ r. ⌜ r ≡ halfOf order ⌝ }
+    ensures { λ r. ⌜ r ≡ rootBoundOf order ⌝ }
 {
     1 << ((order + 1) / 2)
 }
@@ -63,7 +63,7 @@ fn returns_early(order: u32, taps: u32) -> bool
     ensures { λ r. ⌜ r ≡ returnsEarly order taps ⌝ }
 {
     let whole = full_period(order);
-    let end = half(order);
+    let end = root_bound(order);
     let mut d = 1;
     while d < end {
         if returns_at(order, taps, whole, d) {

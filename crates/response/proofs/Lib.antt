@@ -10,3 +10,4 @@ pub mod FastRoute
 pub mod Transformed
 pub mod Clearing
 pub mod Paper
+pub mod Lengths

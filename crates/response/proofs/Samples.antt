@@ -4,6 +4,7 @@ use mathlib.Core.Bool.{false}
 use mathlib.Core.List.{List}
 use Prim.Native.Nat.{ℕ, _^_, _≤_, _<_}
 use native.Mathlib.Omega.{arith}
+use borrow.Author.Tests.{le-ltb}
 use lib.IntN.{ℤ, pos, negsuc, natAbs}
 use lib.ListN.{length}
 use lib.Signed.{ltZ, mag}
@@ -27,6 +28,11 @@ sample-fits z h = record { sfits = omega (arith, in-mag z h) }
 
 pub sample-size : (z : ℤ) → sampleOut z ≡ false → natAbs z ≤ 2 ^ 23
 sample-size z h = omega (arith, in-mag z h, natAbs-≤ z)
+
+-- and a number that is a little smaller is in it
+pub size-inside : (z : ℤ) → natAbs z ≤ 8388607 → sampleOut z ≡ false
+size-inside (pos n) h = le-ltb 8388607 n h
+size-inside (negsuc n) h = rw (le-ltb 8388607 n (omega arith))
 
 -- numbers that are not large are not loud
 pub quiet-wide : (y : ℕ → ℤ) (n : ℕ) → n ≤ 65535 → ((j : ℕ) → j < n → natAbs (y j) ≤ 2 ^ 34) → total n (λ j. natAbs (y j)) < 2 ^ 62

@@ -29,17 +29,21 @@ someOut n y = some n (λ j. sampleOut (y j))
 
 -- ---- one recording: 1 to 7; the answer, the output, the wide room and the tags
 
--- 6: the working room, P+1 wide numbers and 2P tags
-abbrev pub workShort : ℕ → List ℤ → List ℕ → Bool
-workShort N room tags = ltb (length room) (P N + 1) || ltb (length tags) (2 * P N)
+-- 6: by the lengths lent, the working room, P+1 wide numbers and 2P tags
+abbrev pub workShort : ℕ → ℕ → ℕ → Bool
+workShort P room tags = ltb room (P + 1) || ltb tags (2 * P)
 
 -- and with an output of P
-abbrev pub roomShort : ℕ → List ℤ → List ℤ → List ℕ → Bool
-roomShort N out room tags = ltb (length out) (P N) || workShort N room tags
+abbrev pub roomShort : ℕ → ℕ → ℕ → ℕ → Bool
+roomShort P out room tags = ltb out P || workShort P room tags
 
 abbrev pub recordingChecks : ℕ → ℕ → List ℤ → List ℤ → List ℤ → List ℕ → List (ℕ × Bool)
 recordingChecks N taps y out room tags =
-    tapsChecks N taps ++ (5, lengthOff N y) ∷ (6, roomShort N out room tags) ∷ (7, someOut (length y) (at y)) ∷ []
+    tapsChecks N taps
+    ++ (5, lengthOff N y)
+    ∷ (6, roomShort (P N) (length out) (length room) (length tags))
+    ∷ (7, someOut (length y) (at y))
+    ∷ []
 
 -- zeros in the place of the first n
 abbrev pub clearedWide : ℕ → List ℤ → List ℤ
@@ -59,20 +63,24 @@ recordingOutcome N taps y out room tags =
 
 -- ---- prediction: 1 to 8; the answer and the output
 
+-- y(j), of the register's own signal
+abbrev pub predicted : ℕ → ℕ → List ℤ → ℕ → ℤ
+predicted N taps h = prediction (P N) (wave N taps) (at h)
+
 abbrev pub predictionChecks : ℕ → ℕ → List ℤ → List ℤ → List (ℕ × Bool)
 predictionChecks N taps h out =
     tapsChecks N taps
     ++ (5, lengthOff N h)
     ∷ (6, ltb (length out) (P N))
     ∷ (7, someOut (length h) (at h))
-    ∷ (8, someOut (P N) (prediction (P N) (wave N taps) (at h)))
+    ∷ (8, someOut (P N) (predicted N taps h))
     ∷ []
 
 unfoldable pub predictionOutcome : ℕ → ℕ → List ℤ → List ℤ → ℕ × List ℤ
 predictionOutcome N taps h out =
-    outcome (predictionChecks N taps h out) (λ n. (n, out)) (0, put (table (P N) (prediction (P N) (wave N taps) (at h))) out)
+    outcome (predictionChecks N taps h out) (λ n. (n, out)) (0, put (table (P N) (predicted N taps h)) out)
 
 -- what is left of it once 1 to 7 are passed
 abbrev pub heardOutcome : ℕ → ℕ → List ℤ → List ℤ → ℕ × List ℤ
 heardOutcome N taps h out =
-    outcome ((8, someOut (P N) (prediction (P N) (wave N taps) (at h))) ∷ []) (λ n. (n, out)) (0, put (table (P N) (prediction (P N) (wave N taps) (at h))) out)
+    outcome ((8, someOut (P N) (predicted N taps h)) ∷ []) (λ n. (n, out)) (0, put (table (P N) (predicted N taps h)) out)

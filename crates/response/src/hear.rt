@@ -1,4 +1,4 @@
-// The last step of a prediction: the transform read at the windows, in their order.
+// The last step of a prediction: the transform read at the windows, in two strands.
 use crate::range::sample_out;
 use register::far::window_at;
 use register::shift::full_period;

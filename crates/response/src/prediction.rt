@@ -41,6 +41,7 @@ fn predict_short(order: u32, taps: u32, h: &[i32], out: &mut [i32]) -> u32
     predict_in(order, taps, h, out, &mut room)
 }
 
+// In a room for every order.
 fn predict_long(order: u32, taps: u32, h: &[i32], out: &mut [i32]) -> u32
     requires { ⌜ (Accepted order taps) × (length (now h) ≡ P order) × (P order ≤ length (now out)) ⌝ }
     requires { ⌜ someOut (length (now h)) (at (now h)) ≡ false ⌝ }

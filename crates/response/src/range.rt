@@ -12,6 +12,7 @@ pub fn sample_out(x: i64) -> bool
     x < crate::LOWEST_SAMPLE || crate::HIGHEST_SAMPLE < x
 }
 
+// Both are known before the call, so no branch stands between two values.
 fn either(a: bool, b: bool) -> bool
     ensures { λ r. ⌜ r ≡ a || b ⌝ }
 {

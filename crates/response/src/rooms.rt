@@ -1,13 +1,12 @@
 // Whether the room lent is too short, by its lengths.
 ghost use mathlib.Core.Path.{_≡_};
-ghost use mathlib.Core.Bool.{_||_};
-ghost use Prim.Native.Nat.{_+_, _*_, _≤_};
-ghost use lib.Dec.{ltb};
+ghost use Prim.Native.Nat.{_≤_};
+ghost use Rattle.response.specs.Calls.{workShort, roomShort};
 
 // Whether the working room is short of P+1 wide numbers or 2P tags.
 pub fn work_short(period: usize, room: usize, tags: usize) -> bool
     requires { ⌜ period ≤ 65535 ⌝ }
-    ensures { λ r. ⌜ r ≡ ltb room (period + 1) || ltb tags (2 * period) ⌝ }
+    ensures { λ r. ⌜ r ≡ workShort period room tags ⌝ }
 {
     room < period + 1 || tags < 2 * period
 }
@@ -15,7 +14,7 @@ pub fn work_short(period: usize, room: usize, tags: usize) -> bool
 // Whether an output is short of P, or the working room is short.
 pub fn room_short(period: usize, out: usize, room: usize, tags: usize) -> bool
     requires { ⌜ period ≤ 65535 ⌝ }
-    ensures { λ r. ⌜ r ≡ ltb out period || (ltb room (period + 1) || ltb tags (2 * period)) ⌝ }
+    ensures { λ r. ⌜ r ≡ roomShort period out room tags ⌝ }
 {
     out < period || work_short(period, room, tags)
 }

@@ -1,10 +1,12 @@
--- A divisor that is few times a power of two: a quotient by it is a shift, and a product by the reciprocal of the few. Assumes nothing.
+-- A divisor that is few times a power of two: a quotient by it is a shift, and a product by the reciprocal of the few. As the contracts of the
+-- rounding's own functions cite it; no public call's does. Assumes nothing.
 use mathlib.Core.Path.{_≡_}
 use mathlib.Core.Bool.{cond}
 use Prim.Native.Nat.{ℕ, _+_, _*_, _/_, _^_, _≤_, _<_}
 use lib.Dec.{leb}
 use lib.IntN.{ℤ, pos, negsuc, negℤ}
 
+-- 2·d is 2^shift times a few, and m is what a quotient by so many is a product by, less 36 bits
 pub record Split (d shift m : ℕ) : Type 0 where
   pub few : ℕ
   pub some : 0 < few

@@ -101,7 +101,7 @@ fn write_each(r: &[i64], out: &mut [i32], period: usize, divisor: u64, shift: u3
     }
 }
 
-// What a quotient by this many is a product by: 0 where they are more than 64.
+// What a quotient by this many is a product by, over 2^36: 0 where they are more than 64.
 fn reciprocal(rest: u64) -> u64
     requires { ⌜ 0 < rest ⌝ }
     ensures { λ m. ⌜ m ≡ reciprocalOf rest ⌝ }

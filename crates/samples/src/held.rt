@@ -1,4 +1,4 @@
-// A player that a caller holds: lent to the register for a clock, and for a block.
+// A player that a caller holds: lent to the player's calls for a clock, and for a block.
 use player::Played;
 use player::Player;
 use player::Stepped;

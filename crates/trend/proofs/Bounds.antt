@@ -3,20 +3,18 @@ use mathlib.Core.Path.{_≡_, refl}
 use mathlib.Core.Bool.{false, cond}
 use mathlib.Core.List.{List}
 use Prim.Native.Nat.{ℕ, zero, suc, _+_, _*_, _^_, _≤_, _<_}
-use native.Mathlib.Nat.{mul-assoc, mul-le-mul, mul-pos, lt-of-mul-lt-mul-right}
+use native.Mathlib.Nat.{mul-assoc, mul-le-mul, mul-pos}
 use native.Mathlib.Omega.{arith}
-use borrow.Author.Tests.{le-ltb}
 use lib.Dec.{eqb}
-use lib.IntN.{ℤ, pos, negsuc, natAbs}
+use lib.IntN.{ℤ, natAbs}
 use Rattle.sums.specs.Sum.{total}
 use Rattle.sums.specs.Lists.{at, many}
-use Rattle.sums.proofs.Bound.{natAbs-neg}
 use Rattle.register.specs.Register.{P}
 use Rattle.register.proofs.Judged.{generator}
 use Rattle.register.proofs.Word.{small}
-use Rattle.rounding.specs.Rounding.{nearest, rounded}
 use Rattle.response.specs.Calls.{sampleOut}
-use Rattle.rounding.proofs.Nearest.{near-nearest}
+use Rattle.response.proofs.Samples.{size-inside}
+use Rattle.rounding.proofs.Nearest.{rounded-bound}
 use Rattle.response.proofs.Register.{response-bound}
 use Rattle.records.specs.Record.{unseen, standing, overloaded, dead, withdrawn, state, daysIn}
 use Rattle.records.specs.declared.Campaign.{Campaign}
@@ -62,21 +60,6 @@ divisor-most c f =
 
 pub divisor-small : (c : Campaign) → Filed c → divisor c < 2 ^ 53
 divisor-small c f = omega (arith, divisor-most c f)
-
--- ---- rounding keeps a bound
-
-pub nearest-bound : (a d B : ℕ) → 0 < d → a ≤ B * d → nearest a d ≤ B
-nearest-bound a d B p h =
-    let below : nearest a d * (2 * d) < suc B * (2 * d) = omega (arith, near-nearest a d p .0) in
-    omega (arith, lt-of-mul-lt-mul-right (2 * d) below)
-
-pub rounded-bound : (z : ℤ) (d B : ℕ) → 0 < d → natAbs z ≤ B * d → natAbs (rounded z d) ≤ B
-rounded-bound (pos a) d B p h = nearest-bound a d B p h
-rounded-bound (negsuc a) d B p h = rw natAbs-neg (nearest-bound (suc a) d B p h)
-
-pub size-inside : (z : ℤ) → natAbs z ≤ 8388607 → sampleOut z ≡ false
-size-inside (pos n) h = le-ltb 8388607 n h
-size-inside (negsuc n) h = rw (le-ltb 8388607 n (omega arith))
 
 -- ---- response and mean
 

@@ -15,7 +15,7 @@ use lib.Signed.{leZ}
 use lib.Ieee.{Float, nan, inf, fin, Format, binary64, up, down, unlike, round, ofInt, inFloat, div}
 use lib.Ieee.Fits.{up-pos, down-pos}
 use lib.Ieee.Exact.{HasValue, round-exact}
-use lib.Ieee.Scale.{round-same, finite}
+use lib.Ieee.Scale.{round-same}
 use lib.Ieee.Back.{round-whole}
 use Rattle.sums.specs.Lists.{every}
 use Rattle.sums.proofs.Diff.{parts, diffs}
@@ -157,14 +157,6 @@ level-exact r k h l =
       one-mul (2 ^ k),
     )
     (half-exact (isNegative r) (natAbs r) k h (omega arith))
-
-has-finite : (x : Float) (s : Bool) (a c : ℕ) → HasValue x s a c → T (finite x)
-has-finite nan s a c v = absurd v
-has-finite (inf t) s a c v = absurd v
-has-finite (fin t m e) s a c v = tt
-
-pub level-finite : (r : ℤ) (k : ℕ) → natAbs r < 2 ^ 53 → k ≤ 52 → T (finite (level r (2 ^ k)))
-level-finite r k h l = has-finite (level r (2 ^ k)) (isNegative r) (natAbs r) (2 ^ k) (level-exact r k h l)
 
 -- ---- the levels of a campaign
 

@@ -1,10 +1,9 @@
 -- What the checks of a response and of a summary have shown where none refuses. Assumes nothing.
 use mathlib.Core.Path.{_≡_}
-use mathlib.Core.Bool.{false, _||_}
+use mathlib.Core.Bool.{_||_}
 use mathlib.Core.List.{List}
-use Prim.Native.Nat.{ℕ, _+_, _*_, _≤_, _<_}
-use native.Mathlib.Omega.{arith}
-use borrow.Author.Tests.{ltb-false, eqb-false, not-false}
+use Prim.Native.Nat.{ℕ, _*_, _≤_, _<_}
+use borrow.Author.Tests.{ltb-false, eqb-false}
 use lib.Dec.{ltb}
 use lib.IntN.{ℤ}
 use lib.ListN.{length}
@@ -12,16 +11,11 @@ use Rattle.sums.specs.Refusals.{first}
 use Rattle.sums.proofs.First.{passes, or-false}
 use Rattle.register.specs.Register.{P}
 use Rattle.response.specs.Calls.{workShort}
+use Rattle.response.proofs.Lengths.{work-long}
 use Rattle.records.specs.Record.{standing, daysIn}
 use Rattle.records.specs.declared.Campaign.{Campaign}
-use Rattle.records.proofs.Holding.{Together, holds-together}
+use Rattle.records.proofs.Holding.{Together, not-apart}
 use Rattle.trend.specs.Calls.{responseChecks, summaryChecks}
-
--- the working room
-pub work-long : (N : ℕ) (room : List ℤ) (tags : List ℕ) → workShort N room tags ≡ false → (P N < length room) × (2 * P N ≤ length tags)
-work-long N room tags h =
-    let w = or-false (ltb (length room) (P N + 1)) (ltb (length tags) (2 * P N)) h in
-    (omega (arith, ltb-false (length room) (P N + 1) (w .0)), ltb-false (length tags) (2 * P N) (w .1))
 
 -- ---- a response
 
@@ -38,11 +32,11 @@ pub answers : (c : Campaign) (store sums r mean room : List ℤ) (tags : List �
 answers c store sums r mean room tags z =
     let n = P (c .order) in
     let p = passes (responseChecks c store sums r mean room tags) tt z in
-    let six = or-false (ltb (length r) n || ltb (length mean) n) (workShort (c .order) room tags) (p .1 .0) in
+    let six = or-false (ltb (length r) n || ltb (length mean) n) (workShort n (length room) (length tags)) (p .1 .0) in
     let out = or-false (ltb (length r) n) (ltb (length mean) n) (six .0) in
-    let work = work-long (c .order) room tags (six .1) in
+    let work = work-long n (length room) (length tags) (six .1) in
     record {
-      whole = holds-together c store sums .0 (not-false _ (p .0));
+      whole = not-apart c store sums (p .0);
       r-long = ltb-false (length r) n (out .0);
       mean-long = ltb-false (length mean) n (out .1);
       room-long = work .0;
@@ -52,13 +46,13 @@ answers c store sums r mean room tags z =
 
 -- ---- a summary
 
-pub record Sums (c : Campaign) (store sums room : List ℤ) (tags : List ℕ) : Type 0 where
+pub record Measures (c : Campaign) (store sums room : List ℤ) (tags : List ℕ) : Type 0 where
   pub whole : Together c store sums
   pub room-long : P (c .order) < length room
   pub tags-long : 2 * P (c .order) ≤ length tags
 
-pub summed : (c : Campaign) (store sums room : List ℤ) (tags : List ℕ) → first (summaryChecks c store sums room tags) ≡ 0 → Sums c store sums room tags
-summed c store sums room tags z =
+pub measures : (c : Campaign) (store sums room : List ℤ) (tags : List ℕ) → first (summaryChecks c store sums room tags) ≡ 0 → Measures c store sums room tags
+measures c store sums room tags z =
     let p = passes (summaryChecks c store sums room tags) tt z in
-    let work = work-long (c .order) room tags (p .1 .0) in
-    record { whole = holds-together c store sums .0 (not-false _ (p .0)); room-long = work .0; tags-long = work .1 }
+    let work = work-long (P (c .order)) (length room) (length tags) (p .1 .0) in
+    record { whole = not-apart c store sums (p .0); room-long = work .0; tags-long = work .1 }

@@ -44,7 +44,7 @@ countsOutcome c store sums = outcome ((15, apart c store sums) ∷ []) counts.Re
 abbrev pub responseChecks : Campaign → List ℤ → List ℤ → List ℤ → List ℤ → List ℤ → List ℕ → List (ℕ × Bool)
 responseChecks c store sums r mean room tags =
     (15, apart c store sums)
-    ∷ (6, ltb (length r) (P (c .order)) || ltb (length mean) (P (c .order)) || workShort (c .order) room tags)
+    ∷ (6, ltb (length r) (P (c .order)) || ltb (length mean) (P (c .order)) || workShort (P (c .order)) (length room) (length tags))
     ∷ (14, eqb (daysIn c standing) 0)
     ∷ []
 
@@ -96,7 +96,7 @@ levelsOf n r d =
     }
 
 abbrev pub summaryChecks : Campaign → List ℤ → List ℤ → List ℤ → List ℕ → List (ℕ × Bool)
-summaryChecks c store sums room tags = (15, apart c store sums) ∷ (6, workShort (c .order) room tags) ∷ []
+summaryChecks c store sums room tags = (15, apart c store sums) ∷ (6, workShort (P (c .order)) (length room) (length tags)) ∷ []
 
 unfoldable pub summaryOutcome : Campaign → List ℤ → List ℤ → List ℤ → List ℕ → Summary × List ℤ × List ℕ
 summaryOutcome c store sums room tags =

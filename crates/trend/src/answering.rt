@@ -9,10 +9,10 @@ use rounding::means::write_means;
 ghost use mathlib.Core.Path.{_≡_};
 ghost use mathlib.Core.Bool.{_||_};
 ghost use mathlib.Core.List.{List, [], _∷_};
-ghost use Prim.Native.Nat.{_+_, _*_};
 ghost use lib.Dec.{eqb, ltb};
 ghost use Rattle.sums.specs.Refusals.{first};
 ghost use Rattle.register.specs.Register.{P};
+ghost use Rattle.response.specs.Calls.{workShort};
 ghost use Rattle.records.specs.Record.{standing, daysIn, apart};
 ghost use Rattle.trend.specs.Calls.{responseOutcome};
 
@@ -27,7 +27,7 @@ fn response_refusal(
     tags: usize,
 ) -> u32
     ensures { λ n. ⌜ n ≡ first ((15, apart c (now (store .entry)) (now (sums .entry)))
-        ∷ (6, ltb r (P (c .order)) || ltb mean (P (c .order)) || (ltb room (P (c .order) + 1) || ltb tags (2 * P (c .order))))
+        ∷ (6, ltb r (P (c .order)) || ltb mean (P (c .order)) || workShort (P (c .order)) room tags)
         ∷ (14, eqb (daysIn c standing) 0) ∷ []) ⌝ }
 {
     if !holds(c, store, sums) {

@@ -2,13 +2,14 @@
 use response::rooms::work_short;
 ghost use mathlib.Core.Path.{_≡_};
 ghost use mathlib.Core.Bool.{_||_};
-ghost use Prim.Native.Nat.{_+_, _*_, _≤_};
+ghost use Prim.Native.Nat.{_≤_};
 ghost use lib.Dec.{ltb};
+ghost use Rattle.response.specs.Calls.{workShort};
 
 // Whether the outputs are short of P places each, or the working room is short.
 pub fn answer_short(period: usize, r: usize, mean: usize, room: usize, tags: usize) -> bool
     requires { ⌜ period ≤ 65535 ⌝ }
-    ensures { λ x. ⌜ x ≡ ltb r period || ltb mean period || (ltb room (period + 1) || ltb tags (2 * period)) ⌝ }
+    ensures { λ x. ⌜ x ≡ ltb r period || ltb mean period || workShort period room tags ⌝ }
 {
     if r < period {
         return true;

@@ -10,13 +10,12 @@ use records::tables::days_in;
 use register::shift::full_period;
 use response::rooms::work_short;
 ghost use mathlib.Core.Path.{_≡_};
-ghost use mathlib.Core.Bool.{_||_};
 ghost use mathlib.Core.List.{List, [], _∷_};
-ghost use Prim.Native.Nat.{_+_, _*_, _^_, _<_};
-ghost use lib.Dec.{ltb};
+ghost use Prim.Native.Nat.{_^_, _<_};
 ghost use lib.IntN.{natAbs};
 ghost use Rattle.sums.specs.Refusals.{first};
 ghost use Rattle.register.specs.Register.{P};
+ghost use Rattle.response.specs.Calls.{workShort};
 ghost use Rattle.records.specs.Record.{apart};
 ghost use Rattle.trend.specs.Calls.{level, summaryOutcome};
 
@@ -39,7 +38,7 @@ fn levels_of(e: Extremes, d: u64) -> Levels
 // The first of 15, 6 that refuses a summary with so much room, and 0 where none does.
 fn summary_refusal(c: Campaign, store: &[i32], sums: &[i64], room: usize, tags: usize) -> u32
     ensures { λ n. ⌜ n ≡ first ((15, apart c (now (store .entry)) (now (sums .entry)))
-        ∷ (6, ltb room (P (c .order) + 1) || ltb tags (2 * P (c .order))) ∷ []) ⌝ }
+        ∷ (6, workShort (P (c .order)) room tags) ∷ []) ⌝ }
 {
     if !holds(c, store, sums) {
         return 15;

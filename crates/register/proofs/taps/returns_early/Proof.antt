@@ -6,8 +6,8 @@ use native.Mathlib.Omega.{arith}
 use lib.Pow.{pow-pos}
 use Rattle.sums.specs.Lists.{some}
 use Rattle.sums.proofs.Somewhere.{some-at, some-past}
-use Rattle.register.specs.Doubling.{half, returnsAt}
-use Rattle.register.proofs.Divisors.{half-le}
+use Rattle.register.specs.Doubling.{rootBound, returnsAt}
+use Rattle.register.proofs.Divisors.{root-bound-le}
 use Rattle.register.proofs.taps.returns_early.Statement.{statement}
 use Rattle.register.proofs.taps.returns_early.Tie as tie
 
@@ -27,12 +27,12 @@ abbrev μ-loop : tie.MeasureT-loop
 full-period-requires : tie.Need-full-period-requires Inv-loop μ-loop
 full-period-requires c κs = c .pre .0
 
-half-requires : tie.Need-half-requires Inv-loop μ-loop
-half-requires c κs = c .before .pre .0
+root-bound-requires : tie.Need-root-bound-requires Inv-loop μ-loop
+root-bound-requires c κs = c .before .pre .0
 
 -- where the loop ends
-ends : (c : tie.After-half Inv-loop μ-loop) → c .half .result ≡ half (c .before .before .args .order)
-ends c = c .half .ensures
+ends : (c : tie.After-root-bound Inv-loop μ-loop) → c .root-bound .result ≡ rootBound (c .before .before .args .order)
+ends c = c .root-bound .ensures
 
 loop-holds : tie.Need-loop-holds Inv-loop μ-loop
 unfolding some
@@ -42,14 +42,14 @@ returns-at-requires : tie.Need-returns-at-requires Inv-loop μ-loop
 returns-at-requires c κs =
     let h = c .before .before in
     let s = h .before .before in
-    (s .pre .0, s .pre .1, h .before .full-period .ensures, omega arith, omega (arith, ends h, half-le (s .args .order) (s .args .taps) (s .pre .1)))
+    (s .pre .0, s .pre .1, h .before .full-period .ensures, omega arith, omega (arith, ends h, root-bound-le (s .args .order) (s .args .taps) (s .pre .1)))
 
 returns : tie.Need-returns Inv-loop μ-loop
 returns c =
     let h = c .before .before .before .before in
     let a = h .before .before .args in
     let l = c .before .before .before .loop in
-    sym (some-at (test (a .order) (a .taps)) (half (a .order) - 1) (l .d - 1) (omega (arith, ends h)) (at-place (a .order) (a .taps) (l .d) (l .inv .0) ∙ sym (c .before .returns-at .ensures) ∙ c .if1 .taken))
+    sym (some-at (test (a .order) (a .taps)) (rootBound (a .order) - 1) (l .d - 1) (omega (arith, ends h)) (at-place (a .order) (a .taps) (l .d) (l .inv .0) ∙ sym (c .before .returns-at .ensures) ∙ c .if1 .taken))
 
 add-d : tie.Need-add-d Inv-loop μ-loop
 add-d c = omega arith
@@ -72,7 +72,7 @@ returns-2 : tie.Need-returns-2 Inv-loop μ-loop
 returns-2 c =
     let h = c .before .before in
     let a = h .before .before .args in
-    let e : c .before .loop .d - 1 ≡ half (a .order) - 1 = omega (arith, ends h) in
+    let e : c .before .loop .d - 1 ≡ rootBound (a .order) - 1 = omega (arith, ends h) in
     sym (ap (λ n. some n (test (a .order) (a .taps))) (sym e) ∙ c .before .loop .inv .2)
 
 pub returns-early-spec : {M : Type 1} → statement M
@@ -82,7 +82,7 @@ returns-early-spec =
     Inv-loop
     μ-loop
     full-period-requires
-    half-requires
+    root-bound-requires
     loop-holds
     returns-at-requires
     returns

@@ -18,6 +18,7 @@ use Rattle.register.proofs.Judged.{accepted-exactly}
 use Rattle.register.proofs.Word.{small}
 use Rattle.response.specs.Response.{response}
 use Rattle.response.specs.Calls.{lengthOff, workShort, roomShort, someOut, clearedWide, clearedTags, recordingOutcome}
+use Rattle.response.proofs.Lengths.{work-long}
 use Rattle.response.proofs.recording.one_recording.Statement.{statement}
 use Rattle.response.proofs.recording.one_recording.Tie as tie
 
@@ -30,7 +31,7 @@ module _ (N taps : ℕ) (y out room : List ℤ) (tags : List ℕ) (r : ℕ) (e :
   made = (0, put (table (P N) (response (P N) (wave N taps) (at y))) out, clearedWide (P N + 1) room, clearedTags (2 * P N) tags)
 
   rest : List (ℕ × Bool)
-  rest = (5, lengthOff N y) ∷ (6, roomShort N out room tags) ∷ (7, someOut (length y) (at y)) ∷ []
+  rest = (5, lengthOff N y) ∷ (6, roomShort (P N) (length out) (length room) (length tags)) ∷ (7, someOut (length y) (at y)) ∷ []
 
   refused : (r ≡ 0 → ⊥) → recordingOutcome N taps y out room tags ≡ (r, out, room, tags)
   unfolding recordingOutcome tapsAnswer kept made rest
@@ -46,11 +47,11 @@ module _ (N taps : ℕ) (y out room : List ℤ) (tags : List ℕ) (r : ℕ) (e :
     five h = passed z ∙ simp (ne-eqb (length y) (P N) h)
 
     module _ (l : length y ≡ P N) where
-      six : roomShort N out room tags ≡ true → recordingOutcome N taps y out room tags ≡ (6, out, room, tags)
+      six : roomShort (P N) (length out) (length room) (length tags) ≡ true → recordingOutcome N taps y out room tags ≡ (6, out, room, tags)
       unfolding kept made rest
       six s = passed z ∙ simp (eq-eqb (length y) (P N) l, s)
 
-      module _ (s : roomShort N out room tags ≡ false) where
+      module _ (s : roomShort (P N) (length out) (length room) (length tags) ≡ false) where
         seven : someOut (length y) (at y) ≡ true → recordingOutcome N taps y out room tags ≡ (7, out, room, tags)
         unfolding kept made rest
         seven o = passed z ∙ simp (eq-eqb (length y) (P N) l, s, o)
@@ -94,7 +95,7 @@ long c = c .if2 .left ∙ c .before .full-period .ensures
 
 -- what the test of the room says
 short : (c : tie.After-room-short) → let a = c .before .before .before .before .before .before .args in
-    c .room-short .result ≡ roomShort (a .order) (a .out .now) (a .room .now) (a .tags .now)
+    c .room-short .result ≡ roomShort (P (a .order)) (length (a .out .now)) (length (a .room .now)) (length (a .tags .now))
 short c = rw (c .before .before .full-period .ensures) at (c .room-short .ensures)
 
 returns-3 : tie.Need-returns-3
@@ -123,10 +124,11 @@ turn-requires c κs =
     let f = g .before .before in
     let d = f .before .before in
     let a = d .before .before .before .before .before .args in
-    let output = or-false (ltb (length (a .out .now)) (P (a .order))) (workShort (a .order) (a .room .now) (a .tags .now)) (sym (short (f .before)) ∙ f .if3 .left) in
-    let work = or-false (ltb (length (a .room .now)) (P (a .order) + 1)) (ltb (length (a .tags .now)) (2 * P (a .order))) (output .1) in (
+    let work = workShort (P (a .order)) (length (a .room .now)) (length (a .tags .now)) in
+    let output = or-false (ltb (length (a .out .now)) (P (a .order))) work (sym (short (f .before)) ∙ f .if3 .left) in
+    let long-room = work-long (P (a .order)) (length (a .room .now)) (length (a .tags .now)) (output .1) in (
       (accepted (d .before .before), long d, sym (g .before .some-out .ensures) ∙ g .if4 .left),
-      (ltb-false _ _ (output .0), omega (arith, ltb-false (length (a .room .now)) (P (a .order) + 1) (work .0)), ltb-false _ _ (work .1)),
+      (ltb-false _ _ (output .0), long-room .0, long-room .1),
     )
 
 same-length : tie.Need-same-length

@@ -4,7 +4,7 @@ use mathlib.Core.List.{List}
 use Prim.Native.Nat.{ℕ, _+_, _*_, _<_}
 use native.Mathlib.Omega.{arith}
 use borrow.Author.Needs.{needs}
-use lib.IntN.{ℤ, pos, natAbs}
+use lib.IntN.{ℤ, pos}
 use Rattle.sums.specs.Lists.{at, table, put}
 use Rattle.sums.specs.Refusals.{first}
 use Rattle.sums.proofs.First.{refused-with, accepted-with}
@@ -17,7 +17,7 @@ use Rattle.records.specs.declared.Campaign.{Campaign}
 use Rattle.records.proofs.Loops.{days-in-is}
 use Rattle.records.proofs.Totals.{sum-small}
 use Rattle.trend.specs.Calls.{responseChecks, worked, divisor, meanAt, responseOutcome}
-use Rattle.trend.proofs.Bounds.{divisor-some, divisor-small, worked-small, mean-fits}
+use Rattle.trend.proofs.Bounds.{divisor-some, divisor-small, mean-fits}
 use Rattle.trend.proofs.Passing.{Answers, answers}
 use Rattle.trend.proofs.answering.response.Statement.{statement}
 use Rattle.trend.proofs.answering.response.Tie as tie

@@ -22,7 +22,7 @@ use Rattle.trend.specs.declared.Levels.{Levels}
 use Rattle.trend.specs.declared.Summary.{Summary}
 use Rattle.trend.specs.declared.Summary.the-variants as summary
 use Rattle.trend.proofs.Bounds.{divisor-some, divisor-small, extremes-small}
-use Rattle.trend.proofs.Passing.{Sums, summed}
+use Rattle.trend.proofs.Passing.{Measures, measures}
 use Rattle.trend.proofs.summing.summary.Statement.{statement}
 use Rattle.trend.proofs.summing.summary.Tie as tie
 
@@ -60,8 +60,8 @@ returns : tie.Need-returns
 returns c = let a = c .before .before .before .args in refused (a .c) (a .store .now) (a .sums .now) (a .room .now) (a .tags .now) _ (c .before .summary-refusal .ensures) (c .if1 .taken)
 
 -- past the checks
-ready : (c : tie.Else1) → let a = c .before .before .before .args in Sums (a .c) (a .store .now) (a .sums .now) (a .room .now) (a .tags .now)
-ready c = let a = c .before .before .before .args in summed (a .c) (a .store .now) (a .sums .now) (a .room .now) (a .tags .now) (sym (c .before .summary-refusal .ensures) ∙ c .if1 .left)
+ready : (c : tie.Else1) → let a = c .before .before .before .args in Measures (a .c) (a .store .now) (a .sums .now) (a .room .now) (a .tags .now)
+ready c = let a = c .before .before .before .args in measures (a .c) (a .store .now) (a .sums .now) (a .room .now) (a .tags .now) (sym (c .before .summary-refusal .ensures) ∙ c .if1 .left)
 
 slice-aggregate-days-in : tie.Need-slice-aggregate-days-in
 slice-aggregate-days-in c = search needs

@@ -1,10 +1,10 @@
--- `register::taps::half` meets its contract. Assumes nothing.
+-- `register::taps::root_bound` meets its contract. Assumes nothing.
 use borrow.Author.Needs.{needs}
 use Prim.Native.Nat.{_+_, _/_, _≤_}
 use native.Mathlib.Omega.{arith}
 use Rattle.register.proofs.Word.{one-shl}
-use Rattle.register.proofs.taps.half.Statement.{statement}
-use Rattle.register.proofs.taps.half.Tie as tie
+use Rattle.register.proofs.taps.root_bound.Statement.{statement}
+use Rattle.register.proofs.taps.root_bound.Tie as tie
 
 add-result : tie.Need-add-result
 add-result c = search needs
@@ -15,5 +15,5 @@ shl-result c = search needs
 returns : tie.Need-returns
 returns c = let e : (c .args .order + 1) / 2 ≤ 16 = omega (arith, c .pre) in one-shl e
 
-pub half-spec : {M : Type 1} → statement M
-half-spec = tie.close (tie.spec add-result shl-result returns)
+pub root-bound-spec : {M : Type 1} → statement M
+root-bound-spec = tie.close (tie.spec add-result shl-result returns)
