@@ -36,7 +36,7 @@ module _ (n d : ℕ) (some : 0 < n) (z : n % d ≡ 0) where
   pub back : n / (n / d) ≡ d
   back = ap (λ x. x / (n / d)) (sym whole ∙ mul-comm (n / d) d) ∙ mul-div-cancel d times
 
-  -- both are not at or above what squared is more than n
+  -- one of the two is below any number whose square is more than n
   pub one-small : {b : ℕ} → n < b * b → (d < b → ⊥) → n / d < b
   one-small {b} s h = elim (decLt (n / d) b) [
     | yes l ↦ l

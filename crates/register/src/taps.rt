@@ -57,7 +57,7 @@ fn root_bound(order: u32) -> u32
     1 << ((order + 1) / 2)
 }
 
-// Whether the tags return after a divisor of P below it.
+// Whether the tags return after P over some prime: of the divisors that go together, the smaller is gone through.
 fn returns_early(order: u32, taps: u32) -> bool
     requires { ⌜ (order ≤ 16) × Tapped order taps ⌝ }
     ensures { λ r. ⌜ r ≡ returnsEarly order taps ⌝ }
