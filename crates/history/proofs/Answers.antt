@@ -28,7 +28,7 @@ use Rattle.trend.specs.declared.Summary.the-variants as summed
 use Rattle.history.proofs.Steps.{outcome-cases}
 
 -- a list of checks that has not the number n, nor 0
-abbrev lacks : ℕ → List (ℕ × Bool) → Bool
+abbrev pub lacks : ℕ → List (ℕ × Bool) → Bool
 lacks n [] = not (eqb 0 n)
 lacks n (check ∷ checks) = not (eqb (check .0) n) && lacks n checks
 
@@ -40,7 +40,7 @@ T-both : (a b : Bool) → T (a && b) → T a × T b
 T-both true b t = (tt, t)
 T-both false b t = absurd t
 
-not-first : (n : ℕ) (checks : List (ℕ × Bool)) → T (lacks n checks) → first checks ≡ n → ⊥
+pub not-first : (n : ℕ) (checks : List (ℕ × Bool)) → T (lacks n checks) → first checks ≡ n → ⊥
 not-first n [] t e = eqb-false 0 n (negated (eqb 0 n) t) e
 not-first n (check ∷ checks) t e =
     let p = T-both (not (eqb (check .0) n)) (lacks n checks) t in

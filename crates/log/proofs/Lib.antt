@@ -1,4 +1,4 @@
 -- The laws of a campaign's log.
 mod Moving
-pub mod Sizes
+pub mod Finding
 pub mod Standing

@@ -27,7 +27,7 @@ module _ (c : Campaign) (N taps C : ℕ) (store sums : List ℤ) (room : 4088 �
       let m : C * P N ≤ 8 * 511 = mul-le-mul (ltb-false 8 C (o .1)) p in
       simp (le-ltb (length store) (C * P N) (omega arith), le-ltb (length sums) (P N) (omega arith))
 
-  accepted : first (logStartChecks N taps C) ≡ 0 → startOutcome c N taps C store sums .0 .answer ≡ 0
+  pub accepted : first (logStartChecks N taps C) ≡ 0 → startOutcome c N taps C store sums .0 .answer ≡ 0
   unfolding startOutcome
   accepted z =
       let p = passes (logStartChecks N taps C) tt z in

@@ -1,13 +1,27 @@
 // The log program: a campaign's log on standard input, its lines on standard output.
-mod input;
-mod output;
 mod running;
 
+use logprogram::Bookmark;
 use running::run;
 
-// Memory for the largest order and the most slots that the program takes.
+// Where the program stands, and the bytes of the buffer that are at hand.
+pub struct Progress {
+    pub mark: Bookmark,
+    pub from: usize,
+    pub to: usize,
+    pub ended: bool,
+}
+
+// After a read, and whether it failed.
+pub struct Came {
+    pub progress: Progress,
+    pub failed: bool,
+}
+
+// Memory for the largest order and the most slots that the program takes, and for what is read and written.
 fn main() {
     let mut bytes = io::large_buffer();
+    let mut out = io::large_buffer();
     let mut store: [i32; 4088] = [0; 4088];
     let mut sums: [i64; 511] = [0; 511];
     let mut recording: [i32; 511] = [0; 511];
@@ -17,6 +31,7 @@ fn main() {
     let mut tags: [u16; 1022] = [0; 1022];
     run(
         &mut bytes,
+        &mut out,
         &mut store,
         &mut sums,
         &mut recording,

@@ -1,2 +1,2 @@
 -- The laws of text in a buffer.
-mod Writing
+pub mod Writing

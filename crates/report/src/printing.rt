@@ -24,7 +24,7 @@ fn put_byte(b: u8, out: &mut [u8], at: usize) -> usize
     at + 1
 }
 
-fn put_word(word: &[u8], out: &mut [u8], at: usize) -> usize
+pub fn put_word(word: &[u8], out: &mut [u8], at: usize) -> usize
     requires { ⌜ at + length (now word) ≤ length (now out) ⌝ }
     ensures { λ r. ⌜ Wrote (now (word .entry)) at (now (out .entry)) r (now (out .exit)) ⌝ }
 {

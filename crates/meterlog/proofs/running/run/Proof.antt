@@ -1,16 +1,24 @@
--- `meterlog::running::run` meets its contract: the bytes at hand lie in the buffer, and the offset has room for every turn that is left. Assumes nothing.
-use mathlib.Core.Path.{_≡_, refl, _∙_}
+-- `meterlog::running::run` meets its contract: the bytes at hand lie in the buffer, the offset has room for every turn that is left, and the
+-- program stands where turns from the beginning lead. Assumes nothing.
+use mathlib.Core.Path.{_≡_, refl, sym, ap, subst, _∙_}
+use mathlib.Core.Bool.{false}
 use mathlib.Core.List.{List}
 use Prim.Native.Nat.{ℕ, _+_, _*_, _≤_}
 use native.Mathlib.Omega.{arith}
-use lib.IntN.{ℤ}
-use lib.ListN.{length}
+use lib.Dec.{T}
+use lib.IntN.{ℤ, pos}
+use lib.ListN.{length, length-replicate}
+use Rattle.logbook.specs.Book.{Memory, memory}
+use Rattle.logprogram.specs.Program.{Place, placeOf}
+use Rattle.meterlog.specs.Reading.{hand, Held}
+use Rattle.meterlog.proofs.Steps.{held-first, held-step, goes}
 use Rattle.meterlog.proofs.running.run.Statement.{statement}
 use Rattle.meterlog.proofs.running.run.Tie as tie
 
 -- what is lent keeps its length
-record Lent (bytes₀ : List ℕ) (store₀ sums₀ recording₀ r₀ mean₀ room₀ : List ℤ) (tags₀ bytes : List ℕ) (store sums recording r mean room : List ℤ) (tags : List ℕ) : Type 0 where
+record Lent (bytes₀ out₀ : List ℕ) (store₀ sums₀ recording₀ r₀ mean₀ room₀ : List ℤ) (tags₀ bytes out : List ℕ) (store sums recording r mean room : List ℤ) (tags : List ℕ) : Type 0 where
   same-bytes : length bytes ≡ length bytes₀
+  same-out : length out ≡ length out₀
   same-store : length store ≡ length store₀
   same-sums : length sums ≡ length sums₀
   same-recording : length recording ≡ length recording₀
@@ -20,68 +28,93 @@ record Lent (bytes₀ : List ℕ) (store₀ sums₀ recording₀ r₀ mean₀ ro
   same-tags : length tags ≡ length tags₀
 
 abbrev Inv-loop : tie.InvT-loop
-Inv-loop bytes₀ store₀ sums₀ recording₀ r₀ mean₀ room₀ tags₀ p₀ turns₀ bytes store sums recording r mean room tags p turns =
-    (p .from ≤ p .to) × (p .to ≤ length bytes) × (p .offset + 5 * turns ≤ 5764607523034234880)
-    × Lent bytes₀ store₀ sums₀ recording₀ r₀ mean₀ room₀ tags₀ bytes store sums recording r mean room tags
+Inv-loop bytes₀ out₀ store₀ sums₀ recording₀ r₀ mean₀ room₀ tags₀ p₀ turns₀ bytes out store sums recording r mean room tags p turns =
+    (p .from ≤ p .to) × (p .to ≤ length bytes) × (p .mark .offset + 5 * turns ≤ 5764607523034234880)
+    × Lent bytes₀ out₀ store₀ sums₀ recording₀ r₀ mean₀ room₀ tags₀ bytes out store sums recording r mean room tags
+    × (p .mark .going ≡ false → turns ≡ 0) × Held (placeOf (p .mark) (memory store sums recording r mean room tags)) (hand p bytes) (p .ended)
 
 abbrev μ-loop : tie.MeasureT-loop
-μ-loop bytes₀ store₀ sums₀ recording₀ r₀ mean₀ room₀ tags₀ p₀ turns₀ bytes store sums recording r mean room tags p turns = turns
+μ-loop bytes₀ out₀ store₀ sums₀ recording₀ r₀ mean₀ room₀ tags₀ p₀ turns₀ bytes out store sums recording r mean room tags p turns = turns
 
-unbegun-requires : tie.Need-unbegun-requires Inv-loop μ-loop
-unbegun-requires c κs = tt
+first-mark-requires : tie.Need-first-mark-requires Inv-loop μ-loop
+first-mark-requires c κs = tt
 
 loop-holds : tie.Need-loop-holds Inv-loop μ-loop
-loop-holds c = (omega arith, omega arith, omega arith, record { same-bytes = refl; same-store = refl; same-sums = refl; same-recording = refl; same-r = refl; same-mean = refl; same-room = refl; same-tags = refl })
+loop-holds c =
+    let s = c .before .before .before .before in (
+      omega arith,
+      omega arith,
+      omega (arith, ap (λ (p : Place). p .offset) (c .first-mark .ensures)),
+      record { same-bytes = refl; same-out = refl; same-store = refl; same-sums = refl; same-recording = refl; same-r = refl; same-mean = refl; same-room = refl; same-tags = refl },
+      λ e. absurd (subst T (sym (ap (λ (p : Place). p .going) (c .first-mark .ensures)) ∙ e) tt),
+      held-first _ (c .first-mark .result) (s .pre .0) (c .first-mark .ensures),
+    )
 
-turn-requires : tie.Need-turn-requires Inv-loop μ-loop
-turn-requires c κs =
-    let s = c .before .before .before .before .before .before .before .before .before .before .before .before .before in
-    let l = c .before .before .before .before .before .before .before .before .before .loop in
-    ((l .inv .0, l .inv .1, omega (arith, l .inv .2)), (omega (arith, s .pre .0, l .inv .3 .same-r), omega (arith, s .pre .1, l .inv .3 .same-mean)))
+-- a response and its mean, at entry
+lengths : (s : tie.Start Inv-loop μ-loop) → (length (s .args .r .now) ≡ 511) × (length (s .args .mean .now) ≡ 511)
+lengths s = (
+  ap (λ (m : Memory). length (m .r)) (s .pre .0) ∙ length-replicate {A = ℤ} 511 (pos 0),
+  ap (λ (m : Memory). length (m .mean)) (s .pre .0) ∙ length-replicate {A = ℤ} 511 (pos 0),
+)
+
+step-requires : tie.Need-step-requires Inv-loop μ-loop
+step-requires c κs =
+    let s = c .before .before .before .before .before .before .before .before .before .before .before .before .before .before .before in
+    let l = c .before .before .before .before .before .before .before .before .before .before .loop in
+    let long = lengths s in (
+      (l .inv .0, l .inv .1, omega (arith, l .inv .2)),
+      (omega (arith, long .0, l .inv .3 .same-r), omega (arith, long .1, l .inv .3 .same-mean), omega (arith, s .pre .1 .0, l .inv .3 .same-out), omega (arith, s .pre .1 .1, l .inv .3 .same-bytes)),
+    )
 
 turns-left-requires : tie.Need-turns-left-requires Inv-loop μ-loop
-turns-left-requires c κs = c .before .before .before .before .before .before .before .before .before .before .before .before .before .before .before .before .before .before .before .loop-test .taken
+turns-left-requires c κs = c .before .before .before .before .before .before .before .before .before .before .before .before .before .before .before .before .before .before .before .before .before .before .before .loop-test .taken
 
 loop-less : tie.Need-loop-less Inv-loop μ-loop
-loop-less c = c .turns-left .ensures
+loop-less c = c .turns-left .ensures .0
 
 loop-again : tie.Need-loop-again Inv-loop μ-loop
 loop-again c =
-    let l = c .before .before .before .before .before .before .before .before .before .before .before .before .before .before .before .before .before .before .before .before .before .loop in
-    let e = c .before .before .before .before .before .before .before .before .before .before .before .turn .ensures in
-    let k = c .before .before .before .before .before .before .before .before .before .before .before .turn .kept in (
-      e .0,
-      e .1,
-      omega (arith, e .2, c .turns-left .ensures, l .inv .2),
-      record { same-bytes = k .1 .0 ∙ l .inv .3 .same-bytes; same-store = k .1 .1 .0 ∙ l .inv .3 .same-store; same-sums = k .1 .1 .1 .0 ∙ l .inv .3 .same-sums; same-recording = k .1 .1 .1 .1 .0 ∙ l .inv .3 .same-recording; same-r = k .1 .1 .1 .1 .1 .0 ∙ l .inv .3 .same-r; same-mean = k .1 .1 .1 .1 .1 .1 .0 ∙ l .inv .3 .same-mean; same-room = k .1 .1 .1 .1 .1 .1 .1 .0 ∙ l .inv .3 .same-room; same-tags = k .1 .1 .1 .1 .1 .1 .1 .1 .0 ∙ l .inv .3 .same-tags },
+    let l = c .before .before .before .before .before .before .before .before .before .before .before .before .before .before .before .before .before .before .before .before .before .before .before .before .before .loop in
+    let q = c .before .before .before .before .before .before .before .before .before .before .before .before .before .before .step .ensures in
+    let e = q .1 in
+    let k = c .before .before .before .before .before .before .before .before .before .before .before .before .before .before .step .kept in (
+      e .0 .forth,
+      e .0 .inside,
+      omega (arith, e .1, c .turns-left .ensures .0, l .inv .2),
+      record { same-bytes = k .1 .0 ∙ l .inv .3 .same-bytes; same-out = k .1 .1 .0 ∙ l .inv .3 .same-out; same-store = k .1 .1 .1 .0 ∙ l .inv .3 .same-store; same-sums = k .1 .1 .1 .1 .0 ∙ l .inv .3 .same-sums; same-recording = k .1 .1 .1 .1 .1 .0 ∙ l .inv .3 .same-recording; same-r = k .1 .1 .1 .1 .1 .1 .0 ∙ l .inv .3 .same-r; same-mean = k .1 .1 .1 .1 .1 .1 .1 .0 ∙ l .inv .3 .same-mean; same-room = k .1 .1 .1 .1 .1 .1 .1 .1 .0 ∙ l .inv .3 .same-room; same-tags = k .1 .1 .1 .1 .1 .1 .1 .1 .1 .0 ∙ l .inv .3 .same-tags },
+      c .turns-left .ensures .1,
+      held-step _ _ (l .inv .5) (goes (l .p .mark .going) (l .turns) (l .inv .4) (c .before .before .before .before .before .before .before .before .before .before .before .before .before .before .before .before .before .before .before .before .before .before .before .before .loop-test .taken)) (q .0),
     )
 
 same-length : tie.Need-same-length Inv-loop μ-loop
 same-length c = c .before .loop .inv .3 .same-bytes
 
 same-length-2 : tie.Need-same-length-2 Inv-loop μ-loop
-same-length-2 c = c .before .loop .inv .3 .same-store
+same-length-2 c = c .before .loop .inv .3 .same-out
 
 same-length-3 : tie.Need-same-length-3 Inv-loop μ-loop
-same-length-3 c = c .before .loop .inv .3 .same-sums
+same-length-3 c = c .before .loop .inv .3 .same-store
 
 same-length-4 : tie.Need-same-length-4 Inv-loop μ-loop
-same-length-4 c = c .before .loop .inv .3 .same-recording
+same-length-4 c = c .before .loop .inv .3 .same-sums
 
 same-length-5 : tie.Need-same-length-5 Inv-loop μ-loop
-same-length-5 c = c .before .loop .inv .3 .same-r
+same-length-5 c = c .before .loop .inv .3 .same-recording
 
 same-length-6 : tie.Need-same-length-6 Inv-loop μ-loop
-same-length-6 c = c .before .loop .inv .3 .same-mean
+same-length-6 c = c .before .loop .inv .3 .same-r
 
 same-length-7 : tie.Need-same-length-7 Inv-loop μ-loop
-same-length-7 c = c .before .loop .inv .3 .same-room
+same-length-7 c = c .before .loop .inv .3 .same-mean
 
 same-length-8 : tie.Need-same-length-8 Inv-loop μ-loop
-same-length-8 c = c .before .loop .inv .3 .same-tags
+same-length-8 c = c .before .loop .inv .3 .same-room
+
+same-length-9 : tie.Need-same-length-9 Inv-loop μ-loop
+same-length-9 c = c .before .loop .inv .3 .same-tags
 
 returns : tie.Need-returns Inv-loop μ-loop
-returns c = tt
+returns c = c .before .loop .inv .5
 
 pub run-spec : {M : Type 1} → statement M
 run-spec =
@@ -89,9 +122,9 @@ run-spec =
     (tie.spec
     Inv-loop
     μ-loop
-    unbegun-requires
+    first-mark-requires
     loop-holds
-    turn-requires
+    step-requires
     turns-left-requires
     loop-less
     loop-again
@@ -103,4 +136,5 @@ run-spec =
     same-length-6
     same-length-7
     same-length-8
+    same-length-9
     returns)

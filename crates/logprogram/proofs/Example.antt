@@ -1,0 +1,54 @@
+-- Document 01, the example of "The log program": its bytes, and the lines that the program prints for them, by computation. Assumes nothing.
+use mathlib.Core.Path.{_≡_, refl}
+use mathlib.Core.List.{List, [], _∷_, _++_}
+use Prim.Native.Nat.{ℕ}
+use Prim.Native.Char.{code}
+use Prim.Native.String.{String}
+use Prim.Native.String as text
+use lib.Count.{ones}
+use Rattle.sums.specs.Sum.{sum, total, sign}
+use Rattle.sums.specs.Lists.{seek, some, every, many, table, put, putAt}
+use Rattle.register.specs.Register.{dot, step, window, bit, wave, period}
+use Rattle.register.specs.Calls.{tapsAnswer}
+use Rattle.response.specs.Response as formula
+use Rattle.rounding.specs.Rounding.{nearest}
+use Rattle.records.specs.Record.{together}
+use Rattle.campaign.specs.Calls.{startOutcome, enterOutcome, withdrawOutcome}
+use Rattle.trend.specs.Calls.{countsOutcome, responseOutcome}
+use Rattle.log.specs.Log.{decoded}
+use Rattle.report.specs.Lines.{digits}
+use Rattle.logbook.specs.Book.{beganOutcome, applied}
+use Rattle.logprogram.specs.Program.{rowsBytes, turn, output, logOutput}
+
+-- a text's codes
+abbrev ascii : String → List ℕ
+ascii text.[] = []
+ascii (text._∷_ c s) = code c ∷ ascii s
+
+-- order 3, taps 3, 2 slots; day 1 with -1,-3,-1,3,3,-3,1; day 2 with seven 5s; ask; withdraw 1; ask
+abbrev pub example : List ℕ
+example =
+    (1 ∷ 3 ∷ 3 ∷ 0 ∷ 2 ∷ [])
+    ++ (2 ∷ 1 ∷ 0 ∷ [])
+    ++ (3 ∷ 255 ∷ 255 ∷ 255 ∷ 3 ∷ 253 ∷ 255 ∷ 255 ∷ 3 ∷ 255 ∷ 255 ∷ 255 ∷ 3 ∷ 3 ∷ 0 ∷ 0 ∷ 3 ∷ 3 ∷ 0 ∷ 0 ∷ 3 ∷ 253 ∷ 255 ∷ 255 ∷ 3 ∷ 1 ∷ 0 ∷ 0 ∷ [])
+    ++ (4 ∷ [])
+    ++ (2 ∷ 2 ∷ 0 ∷ [])
+    ++ (3 ∷ 5 ∷ 0 ∷ 0 ∷ 3 ∷ 5 ∷ 0 ∷ 0 ∷ 3 ∷ 5 ∷ 0 ∷ 0 ∷ 3 ∷ 5 ∷ 0 ∷ 0 ∷ 3 ∷ 5 ∷ 0 ∷ 0 ∷ 3 ∷ 5 ∷ 0 ∷ 0 ∷ 3 ∷ 5 ∷ 0 ∷ 0 ∷ [])
+    ++ (4 ∷ [])
+    ++ (6 ∷ [])
+    ++ (5 ∷ 1 ∷ 0 ∷ [])
+    ++ (6 ∷ [])
+
+abbrev pub exampleLines : List ℕ
+exampleLines =
+    ascii "start 0\n"
+    ++ ascii "enter 1 0 kept\n"
+    ++ ascii "enter 2 0 dead\n"
+    ++ ascii "response 0 1 0 1 0\n"
+    ++ ascii "0 16 2\n1 0 0\n2 -8 -1\n3 0 0\n4 0 0\n5 0 0\n6 0 0\n"
+    ++ ascii "withdraw 1 0\n"
+    ++ ascii "response 14 0 0 1 1\n"
+
+pub example-prints : logOutput example ≡ exampleLines
+unfolding logOutput output turn decoded applied beganOutcome startOutcome enterOutcome withdrawOutcome countsOutcome responseOutcome rowsBytes digits together tapsAnswer period seek some every many total sum sign table put putAt nearest formula.response formula.correlation wave bit window step dot ones
+example-prints = refl

@@ -1,0 +1,173 @@
+-- After any number of turns the record and the memory are what the log's calls made of them, in a run from the start that was accepted; and
+-- the room lent to a response is long enough. Assumes nothing.
+use mathlib.Core.Path.{_≡_, refl, ap, _∙_}
+use mathlib.Core.Bool.{Bool, true, false, cond}
+use mathlib.Core.List.{List, [], _++_}
+use Prim.Native.Nat.{ℕ, zero, suc, _+_, _*_, _≤_}
+use native.Mathlib.Omega.{arith}
+use borrow.Author.Tests.{ltb-false}
+use lib.Dec.{ltb}
+use lib.IntN.{ℤ, pos}
+use lib.ListN.{length, set, take, length-replicate}
+use lib.Pow.{pow-mono}
+use Rattle.sums.specs.Lists.{table, put}
+use Rattle.sums.specs.Refusals.{first, answered}
+use Rattle.sums.proofs.First.{passes, or-false}
+use Rattle.sums.proofs.Tables.{length-put, length-table}
+use Rattle.register.specs.Register.{P}
+use Rattle.records.specs.Record.{fresh}
+use Rattle.records.specs.declared.Campaign.{Campaign}
+use Rattle.campaign.specs.Calls.{startOutcome}
+use Rattle.trend.specs.Calls.{responseChecks, responseOutcome, worked, meanAt}
+use Rattle.history.specs.Run.{World, Call, enter, withdraw, after, run}
+use Rattle.history.proofs.Begun.{begun, started}
+use Rattle.history.proofs.History.{says}
+use Rattle.history.proofs.Steps.{outcome-cases}
+use Rattle.history.proofs.Answers.{RoomFor, responded}
+use Rattle.log.specs.declared.Phase.{Phase}
+use Rattle.log.specs.declared.Phase.the-variants as phase
+use Rattle.log.specs.declared.Item.{Item}
+use Rattle.log.specs.declared.Item.the-variants as item
+use Rattle.log.specs.declared.Found.{Found}
+use Rattle.log.specs.declared.Found.the-variants as found
+use Rattle.log.proofs.Finding.{Fits, starts, opens, withdraws, asks, samples, enters, whole, bad, end}
+use Rattle.logbook.specs.Book.{Memory, memory, dayLength, logStartChecks, over, startedBy, beganOutcome, filing, applied}
+use Rattle.logbook.specs.declared.Applied.{Applied}
+use Rattle.logbook.proofs.Starts as starting
+use Rattle.logprogram.specs.Program.{Place, zeros, firstMemory, turnOn, standsAt}
+use Rattle.logprogram.proofs.Turns.{StandsAt, found-at, turns}
+use Rattle.logruns.specs.Calls.{callsOf, callsAt, Reached, onward, reached}
+
+-- ---- what is claimed of a place
+
+-- a start of an order up to 9 was accepted, the record and the memory are those of the run of the calls since, and a response has room
+pub record Running (calls : List Call) (c : Campaign) (m : Memory) : Type 0 where
+  pub N : ℕ
+  pub taps : ℕ
+  pub C : ℕ
+  pub few : N ≤ 9
+  pub accepted : startOutcome (fresh 0 0 0) N taps C (zeros 4088) (zeros 511) .0 .answer ≡ 0
+  pub world : _≡_ {A = World} (record { campaign = c; store = m .store; sums = m .sums }) (run (begun N taps C (zeros 4088) (zeros 511)) calls)
+  pub room : RoomFor 9 (m .r) (m .mean) (m .room) (m .tags)
+
+-- before the start there are no calls, and after a refused one nothing more is read
+pub data Follows (calls : List Call) (c : Campaign) (m : Memory) : Phase → Type 0 where
+  unbegun : c ≡ fresh 0 0 0 → m ≡ firstMemory → calls ≡ [] → Follows calls c m phase.Unbegun
+  between : Running calls c m → Follows calls c m phase.Between
+  inside : {d n : ℕ} → Running calls c m → Follows calls c m (phase.Open d n)
+  stopped : Follows calls c m phase.Stopped
+
+abbrev pub FollowsAt : List Call → Place → Type 0
+FollowsAt calls p = Follows calls (p .book .campaign) (p .memory) (p .book .phase)
+
+-- ---- a start
+
+few-slots : (N taps C : ℕ) → first (logStartChecks N taps C) ≡ 0 → N ≤ 9
+few-slots N taps C e = let p = passes (logStartChecks N taps C) tt e in ltb-false 9 N (or-false (ltb 9 N) (ltb 8 C) (p .1 .1 .1 .1 .1 .0) .0)
+
+first-room : RoomFor 9 (zeros 511) (zeros 511) (zeros 512) (firstMemory .tags)
+first-room =
+    record {
+      r-long = omega (arith, length-replicate {A = ℤ} 511 (pos 0));
+      mean-long = omega (arith, length-replicate {A = ℤ} 511 (pos 0));
+      room-long = omega (arith, length-replicate {A = ℤ} 512 (pos 0));
+      tags-long = omega (arith, length-replicate {A = ℕ} 1022 0);
+    }
+
+abbrev began : ℕ → ℕ → ℕ → ℕ → Applied × Memory
+began N taps C k =
+    filing firstMemory
+    (answered k (λ n. (startedBy (record { answer = n; campaign = fresh 0 0 0 }), zeros 4088, zeros 511)) (over startedBy (startOutcome (fresh 0 0 0) N taps C (zeros 4088) (zeros 511))))
+
+began-follows : (N taps C k : ℕ) → first (logStartChecks N taps C) ≡ k
+    → Follows [] (began N taps C k .0 .book .campaign) (began N taps C k .1) (began N taps C k .0 .book .phase)
+unfolding run
+began-follows N taps C (suc k) e = stopped
+began-follows N taps C zero e =
+    let a = starting.accepted (fresh 0 0 0) N taps C (zeros 4088) (zeros 511) (omega (arith, length-replicate {A = ℤ} 4088 (pos 0))) (omega (arith, length-replicate {A = ℤ} 511 (pos 0))) e in
+    rw (started (fresh 0 0 0) N taps C (zeros 4088) (zeros 511) a .1)
+    (between (record { N = N; taps = taps; C = C; few = few-slots N taps C e; accepted = a; world = refl; room = first-room }))
+
+-- ---- an ask keeps the room's lengths
+
+module _ {A : Type 0} where
+  long-put : (k n : ℕ) (f : ℕ → A) (l : List A) → k ≤ n → n ≤ length l → n ≤ length (put (table k f) l)
+  long-put k n f l h g = rw (length-put (table k f) l (omega (arith, length-table k f))) g
+
+asked-room : (c : Campaign) (store sums r mean room : List ℤ) (tags : List ℕ) → c .order ≤ 9 → RoomFor 9 r mean room tags
+    → let o = responseOutcome c store sums r mean room tags in RoomFor 9 (o .1) (o .2) (o .3) (o .4)
+unfolding responseOutcome
+asked-room c store sums r mean room tags h l =
+    outcome-cases {A = ℕ × List ℤ × List ℤ × List ℤ × List ℕ} (responseChecks c store sums r mean room tags) tt (λ n. (n, r, mean, room, tags))
+    (responded c sums r mean room tags) (λ o. RoomFor 9 (o .1) (o .2) (o .3) (o .4)) (λ _ _ _. l)
+    (λ _.
+    let p : P (c .order) ≤ 511 = omega (arith, pow-mono h) in
+    record {
+      r-long = long-put (P (c .order)) 511 (worked c sums) r p (l .r-long);
+      mean-long = long-put (P (c .order)) 511 (meanAt c sums) mean p (l .mean-long);
+      room-long = long-put (P (c .order) + 1) 512 (λ _. pos 0) room (omega arith) (l .room-long);
+      tags-long = long-put (2 * P (c .order)) 1022 (λ _. 0) tags (omega arith) (l .tags-long);
+    })
+
+module _ {calls : List Call} {c : Campaign} {m : Memory} (r : Running calls c m) where
+  pub order-is : c .order ≡ r .N
+  order-is =
+      ap (λ w. w .campaign .order) (r .world)
+      ∙ says (r .N) (r .taps) (r .C) (zeros 4088) (zeros 511) (started (fresh 0 0 0) (r .N) (r .taps) (r .C) (zeros 4088) (zeros 511) (r .accepted) .0) calls .order
+
+  pub order-few : c .order ≤ 9
+  order-few = omega (arith, order-is, r .few)
+
+-- ---- one record
+
+-- the run goes on, and the room is as long
+onward-running : {calls more : List Call} {c d : Campaign} {m l : Memory} (r : Running calls c m)
+    → _≡_ {A = World} (record { campaign = d; store = l .store; sums = l .sums }) (run (begun (r .N) (r .taps) (r .C) (zeros 4088) (zeros 511)) more)
+    → RoomFor 9 (l .r) (l .mean) (l .room) (l .tags) → Running more d l
+onward-running r w o = record { N = r .N; taps = r .taps; C = r .C; few = r .few; accepted = r .accepted; world = w; room = o }
+
+module _ (c : Campaign) (m : Memory) (calls : List Call) where
+  start-follows : (N taps C : ℕ) → c ≡ fresh 0 0 0 → m ≡ firstMemory → calls ≡ []
+      → let o = filing m (beganOutcome c N taps C (m .store) (m .sums)) in Follows calls (o .0 .book .campaign) (o .1) (o .0 .book .phase)
+  unfolding beganOutcome
+  start-follows N taps C e f g = rw (e, f, g) (began-follows N taps C (first (logStartChecks N taps C)) refl)
+
+  sample-follows : (d n : ℕ) (v : ℤ) (b : Bool) → Running calls c m
+      → let o = cond {A = Phase × List ℤ} b (phase.Open d (n + 1), set (m .recording) n v) (phase.Open d n, m .recording) in
+      Follows calls c (memory (m .store) (m .sums) (o .1) (m .r) (m .mean) (m .room) (m .tags)) (o .0)
+  sample-follows d n v true r = inside (onward-running r (r .world) (r .room))
+  sample-follows d n v false r = inside (onward-running r (r .world) (r .room))
+
+module _ (D : ℕ) (c : Campaign) (m : Memory) (offset : ℕ) (going : Bool) (calls : List Call) where
+  abbrev standing-at : Phase → Place
+  standing-at p = record { book = record { phase = p; campaign = c }; memory = m; offset = offset; going = going }
+
+  record-follows : (p : Phase) (i : Item) (k : ℕ) → Fits D p i → Follows calls c m p
+      → FollowsAt (callsOf (standing-at p) i ++ calls) (turnOn (standing-at p) (found.Whole i k) .place)
+  unfolding applied run
+  record-follows p i k (starts {N} {taps} {C}) (unbegun e f g) = start-follows c m calls N taps C e f g
+  record-follows p i k opens (between r) = inside r
+  record-follows p i k (withdraws {d}) (between r) = between (onward-running r (ap (λ w. after w (withdraw d)) (r .world)) (r .room))
+  record-follows p i k asks (between r) =
+      between (onward-running r (r .world) (asked-room c (m .store) (m .sums) (m .r) (m .mean) (m .room) (m .tags) (order-few r) (r .room)))
+  record-follows p i k (samples {d} {n} {v} h) (inside r) = sample-follows c m calls d n v (ltb n (length (m .recording))) r
+  record-follows p i k (enters {d} {n}) (inside r) = between (onward-running r (ap (λ w. after w (enter d (take n (m .recording)))) (r .world)) (r .room))
+
+-- ---- all records
+
+turn-follows : (p : Place) (bytes : List ℕ) (calls : List Call) (f : Found) → StandsAt p bytes true f → FollowsAt calls p → FollowsAt (callsAt p f ++ calls) (turnOn p f .place)
+turn-follows p bytes calls f (whole {i = i} {n = k} fit _ _ _) s =
+    record-follows (dayLength (p .book .campaign .order)) (p .book .campaign) (p .memory) (p .offset) (p .going) calls (p .book .phase) i k fit s
+turn-follows p bytes calls f bad s = s
+turn-follows p bytes calls f end s = s
+
+going-follows : (s : Reached) (b : Bool) → FollowsAt (s .calls) (s .place) → FollowsAt (cond b (onward s) s .calls) (cond b (onward s) s .place)
+going-follows s false f = f
+going-follows s true f =
+    rw (turns (s .place) (s .left) true)
+    (turn-follows (s .place) (s .left) (s .calls) (standsAt (s .place) (s .left) true) (found-at (s .place) (s .left) true) f)
+
+pub follows : (n : ℕ) (input : List ℕ) → FollowsAt (reached n input .calls) (reached n input .place)
+unfolding reached
+follows zero input = unbegun refl refl refl
+follows (suc n) input = going-follows (reached n input) (reached n input .place .going) (follows n input)

@@ -1,0 +1,4 @@
+-- The laws of the calls that a log makes.
+pub mod Printing
+pub mod Following
+pub mod Promises

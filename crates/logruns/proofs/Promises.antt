@@ -1,0 +1,248 @@
+-- What every log is promised: no line of it says 15 or 6, and what a response prints is what the history of its calls says, the third
+-- demand. For every input, and after any number of turns. Assumes nothing.
+use mathlib.Core.Path.{_≡_, refl, sym, ap, subst, _∙_}
+use mathlib.Core.Bool.{Bool, true, false, cond, not, _||_}
+use mathlib.Core.List.{List, [], _∷_, _++_}
+use Prim.Native.Nat.{ℕ, suc, _+_, _*_, _≤_, _<_}
+use native.Mathlib.Omega.{arith}
+use borrow.Author.Tests.{le-ltb, le-leb}
+use lib.Dec.{eqb, ltb}
+use lib.IntN.{ℤ, pos, _*ℤ_}
+use lib.ListN.{length, take, length-replicate}
+use lib.Pow.{pow-mono}
+use Rattle.sums.specs.Lists.{at}
+use Rattle.sums.specs.Refusals.{first, answered, outcome}
+use Rattle.register.specs.Register.{P, wave}
+use Rattle.response.specs.Response.{prediction}
+use Rattle.records.specs.Record.{unseen, standing, overloaded, dead, withdrawn, daysIn, together, marked, fresh}
+use Rattle.records.specs.declared.Campaign.{Campaign}
+use Rattle.records.proofs.Refiling.{Day}
+use Rattle.campaign.specs.Calls.{enterChecks, withdrawChecks, railPlace, still, entered, keptOutcome, judgedOutcome, withdrawnOutcome, enterOutcome, withdrawOutcome, verdictNumber}
+use Rattle.campaign.specs.declared.Entered.{Entered}
+use Rattle.campaign.specs.declared.Withdrawn.{Withdrawn}
+use Rattle.campaign.specs.declared.Verdict.the-variants as verdict
+use Rattle.trend.specs.Calls.{responseChecks, countsOutcome, responseOutcome}
+use Rattle.trend.specs.declared.Tally.{Tally}
+use Rattle.history.specs.Run.{World, Call, enter, withdraw, response, answer, run, made, heard}
+use Rattle.history.proofs.Begun.{begun}
+use Rattle.history.proofs.Steps.{outcome-cases}
+use Rattle.history.proofs.Answers.{not-first, RoomFor, responded}
+use Rattle.history.proofs.EveryRun as every
+use Rattle.log.specs.declared.Phase.{Phase}
+use Rattle.log.specs.declared.Phase.the-variants as phase
+use Rattle.log.specs.declared.Item.{Item}
+use Rattle.log.specs.declared.Item.the-variants as item
+use Rattle.log.specs.declared.Found.the-variants as found
+use Rattle.log.proofs.Finding.{Fits, starts, opens, withdraws, asks, samples, enters, whole-fits}
+use Rattle.report.specs.Lines.{lineBytes, responseLine}
+use Rattle.report.specs.declared.Line.the-variants as line
+use Rattle.logbook.specs.Book.{Memory, logStartChecks, dayLength, tallied, applied}
+use Rattle.logbook.specs.declared.Applied.{Applied}
+use Rattle.logbook.proofs.Starts.{never-six}
+use Rattle.logprogram.specs.Program.{Place, zeros, firstMemory, rowsBytes, turnOn, standsAt, turn}
+use Rattle.logprogram.proofs.Turns.{found-at, turns}
+use Rattle.logruns.specs.Calls.{worldOf, lineNumber, reached}
+use Rattle.logruns.proofs.Following.{Running, Follows, unbegun, between, inside, order-is, order-few, follows}
+
+-- ---- the run that a place stands in
+
+module _ {calls : List Call} {c : Campaign} {m : Memory} (r : Running calls c m) where
+  abbrev pub w₀ : World
+  w₀ = begun (r .N) (r .taps) (r .C) (zeros 4088) (zeros 511)
+
+  abbrev now : World
+  now = record { campaign = c; store = m .store; sums = m .sums }
+
+  holds : together c (m .store) (m .sums) ≡ true
+  holds =
+      ap (λ (w : World). together (w .campaign) (w .store) (w .sums)) (r .world)
+      ∙ every.holds (fresh 0 0 0) (r .N) (r .taps) (r .C) (zeros 4088) (zeros 511) (r .accepted) calls
+
+  no-fifteen : (call : Call) → answer now call ≡ 15 → ⊥
+  no-fifteen call e =
+      every.no-fifteen (fresh 0 0 0) (r .N) (r .taps) (r .C) (zeros 4088) (zeros 511) (r .accepted) calls call (ap (λ w. answer w call) (sym (r .world)) ∙ e)
+
+  -- ---- 6 is no answer of an entry or of a withdrawal, and a response has room
+
+  entry-no-six : (d : ℕ) (y : List ℤ) → answer now (enter d y) ≡ 6 → ⊥
+  unfolding enterOutcome
+  entry-no-six d y =
+      outcome-cases {A = Entered × List ℤ × List ℤ} (enterChecks c (m .store) (m .sums) d y) tt
+      (λ n. (entered c d (verdict.Refused n), m .store, m .sums)) (judgedOutcome c (m .store) (m .sums) d y)
+      (λ o. verdictNumber (o .0 .entry .verdict) ≡ 6 → ⊥)
+      (λ n _ h g. not-first 6 (enterChecks c (m .store) (m .sums) d y) tt (h ∙ g))
+      (λ _. by-rail (ltb (railPlace y) (length y)) (still y) (eqb (daysIn c standing) (c .slots)))
+    where
+      by-rail : (a b e : Bool)
+          → verdictNumber (cond a (entered (marked c d overloaded) d (verdict.Overloaded (railPlace y)), m .store, m .sums)
+          (cond b (entered (marked c d dead) d verdict.Dead, m .store, m .sums)
+          (outcome ((12, e) ∷ []) (λ n. (entered c d (verdict.Refused n), m .store, m .sums)) (keptOutcome c (m .store) (m .sums) d y)))
+          .0 .entry .verdict) ≡ 6 → ⊥
+      by-rail true b e h = omega arith
+      by-rail false true e h = omega arith
+      by-rail false false true h = omega arith
+      by-rail false false false h = omega arith
+
+  withdrawal-no-six : (d : ℕ) → answer now (withdraw d) ≡ 6 → ⊥
+  unfolding withdrawOutcome
+  withdrawal-no-six d =
+      outcome-cases {A = Withdrawn × List ℤ × List ℤ} (withdrawChecks c (m .store) (m .sums) d) tt
+      (λ n. (record { answer = n; campaign = c }, m .store, m .sums)) (withdrawnOutcome c (m .store) (m .sums) d) (λ o. o .0 .answer ≡ 6 → ⊥)
+      (λ n _ h g. not-first 6 (withdrawChecks c (m .store) (m .sums) d) tt (h ∙ g)) (λ _ g. omega arith)
+
+  response-no-six : answer now (response (m .r) (m .mean) (m .room) (m .tags)) ≡ 6 → ⊥
+  unfolding responseOutcome
+  response-no-six =
+      outcome-cases {A = ℕ × List ℤ × List ℤ × List ℤ × List ℕ} (responseChecks c (m .store) (m .sums) (m .r) (m .mean) (m .room) (m .tags)) tt
+      (λ n. (n, m .r, m .mean, m .room, m .tags)) (responded c (m .sums) (m .r) (m .mean) (m .room) (m .tags)) (λ o. o .0 ≡ 6 → ⊥)
+      (λ n _ h g. enough (not (together c (m .store) (m .sums))) (eqb (daysIn c standing) 0) (h ∙ g)) (λ _ g. omega arith)
+    where
+      p : P (c .order) ≤ 511
+      p = omega (arith, pow-mono (order-few r))
+
+      roomy : ltb (length (m .r)) (P (c .order)) || ltb (length (m .mean)) (P (c .order)) || (ltb (length (m .room)) (P (c .order) + 1) || ltb (length (m .tags)) (2 * P (c .order))) ≡ false
+      roomy =
+          simp (le-ltb (length (m .r)) (P (c .order)) (omega (arith, p, r .room .r-long)), le-ltb (length (m .mean)) (P (c .order)) (omega (arith, p, r .room .mean-long)), le-ltb (length (m .room)) (P (c .order) + 1) (omega (arith, p, r .room .room-long)), le-ltb (length (m .tags)) (2 * P (c .order)) (omega (arith, p, r .room .tags-long)))
+
+      go : (a b : Bool) → first ((15, a) ∷ (6, false) ∷ (14, b) ∷ []) ≡ 6 → ⊥
+      go true b h = omega arith
+      go false true h = omega arith
+      go false false h = omega arith
+
+      enough : (a b : Bool) → first ((15, a) ∷ (6, ltb (length (m .r)) (P (c .order)) || ltb (length (m .mean)) (P (c .order)) || (ltb (length (m .room)) (P (c .order) + 1) || ltb (length (m .tags)) (2 * P (c .order)))) ∷ (14, b) ∷ []) ≡ 6 → ⊥
+      enough a b h = go a b (sym (ap (λ x. first ((15, a) ∷ (6, x) ∷ (14, b) ∷ [])) roomy) ∙ h)
+
+-- ---- no line says 15 or 6
+
+module _ (D : ℕ) (c : Campaign) (m : Memory) (calls : List Call) where
+  abbrev number : Phase → Item → ℕ
+  number p i = lineNumber (applied (record { phase = p; campaign = c }) i m .0 .line)
+
+  start-number : (N taps C : ℕ) → m ≡ firstMemory → number phase.Unbegun (item.Start N taps C) ≡ first (logStartChecks N taps C)
+  unfolding applied
+  start-number N taps C f =
+      ap lineNumber
+      (never-six c N taps C (m .store) (m .sums) (omega (arith, ap (λ (x : Memory). length (x .store)) f, length-replicate {A = ℤ} 4088 (pos 0)))
+      (omega (arith, ap (λ (x : Memory). length (x .sums)) f, length-replicate {A = ℤ} 511 (pos 0))))
+
+  record-number : (p : Phase) (i : Item) → Fits D p i → Follows calls c m p → (number p i ≡ 15 → ⊥) × (number p i ≡ 6 → ⊥)
+  unfolding applied
+  record-number p i (starts {N} {taps} {C}) (unbegun e f g) = (
+    λ h. not-first 15 (logStartChecks N taps C) tt (sym (start-number N taps C f) ∙ h),
+    λ h. not-first 6 (logStartChecks N taps C) tt (sym (start-number N taps C f) ∙ h),
+  )
+  record-number p i opens (between r) = (λ h. omega arith, λ h. omega arith)
+  record-number p i (withdraws {d}) (between r) = (no-fifteen r (withdraw d), withdrawal-no-six r d)
+  record-number p i asks (between r) = (no-fifteen r (response (m .r) (m .mean) (m .room) (m .tags)), response-no-six r)
+  record-number p i (samples h) (inside r) = (λ h. omega arith, λ h. omega arith)
+  record-number p i (enters {d} {n}) (inside r) = (no-fifteen r (enter d (take n (m .recording))), entry-no-six r d (take n (m .recording)))
+
+module _ (n : ℕ) (input : List ℕ) where
+  abbrev pub here : Place
+  here = reached n input .place
+
+  module _ (i : Item) (k : ℕ) (stands : standsAt here (reached n input .left) true ≡ found.Whole i k) where
+    fits : Fits (dayLength (here .book .campaign .order)) (here .book .phase) i
+    fits = whole-fits (rw stands at (found-at here (reached n input .left) true))
+
+    numbers : (lineNumber (applied (here .book) i (here .memory) .0 .line) ≡ 15 → ⊥) × (lineNumber (applied (here .book) i (here .memory) .0 .line) ≡ 6 → ⊥)
+    numbers =
+        record-number (dayLength (here .book .campaign .order)) (here .book .campaign) (here .memory) (reached n input .calls) (here .book .phase) i fits (follows n input)
+
+    pub never-says-15 : lineNumber (applied (here .book) i (here .memory) .0 .line) ≡ 15 → ⊥
+    never-says-15 = numbers .0
+
+    pub never-says-6 : lineNumber (applied (here .book) i (here .memory) .0 .line) ≡ 6 → ⊥
+    never-says-6 = numbers .1
+
+-- ---- the third demand, of what an ask prints
+
+module _ {calls : List Call} {c : Campaign} {m : Memory} (r : Running calls c m) where
+  -- the days in each state, by what the last accepted call that names each made of it
+  abbrev pub historyTally : Tally
+  historyTally =
+      let days = every.daysMade (fresh 0 0 0) (r .N) (r .taps) (r .C) (zeros 4088) (zeros 511) (r .accepted) calls in
+      record { unseen = days unseen; standing = days standing; overloaded = days overloaded; dead = days dead; withdrawn = days withdrawn }
+
+  abbrev asked : Phase → Applied × Memory
+  asked p = applied (record { phase = p; campaign = c }) item.Ask m
+
+  counts-said : (p : Phase) → asked p .0 .line ≡ line.Answered (answer (now r) (response (m .r) (m .mean) (m .room) (m .tags))) historyTally
+  unfolding applied
+  counts-said p =
+      ap (λ n. line.Answered (answer (now r) (response (m .r) (m .mean) (m .room) (m .tags))) (tallied n))
+      (ap (λ (w : World). countsOutcome (w .campaign) (w .store) (w .sums)) (r .world)
+      ∙ every.counts-are (fresh 0 0 0) (r .N) (r .taps) (r .C) (zeros 4088) (zeros 511) (r .accepted) calls)
+
+  room-for : RoomFor (r .N) (m .r) (m .mean) (m .room) (m .tags)
+  room-for =
+      let p : P (r .N) ≤ 511 = omega (arith, pow-mono (r .few)) in
+      record {
+        r-long = omega (arith, r .room .r-long);
+        mean-long = omega (arith, r .room .mean-long);
+        room-long = omega (arith, r .room .room-long);
+        tags-long = omega (arith, r .room .tags-long);
+      }
+
+  rows-said : (p : Phase) (a : ℕ) → a ≡ 0 → answer (now r) (response (m .r) (m .mean) (m .room) (m .tags)) ≡ a → asked p .0 .rows ≡ P (r .N)
+  unfolding applied
+  rows-said p a z e =
+      ap (λ n. answered n (λ _. 0) (dayLength (c .order))) (e ∙ z) ∙ ap dayLength (order-is r) ∙ ap (λ b. cond b (P (r .N)) 0) (le-leb (r .N) 9 (r .few))
+
+  module _ (h : ℕ → ℕ → ℤ)
+      (convolved : (d : ℕ) → Day d → made (w₀ r) calls d ≡ standing → (j : ℕ) → j < P (r .N)
+      → at (heard (w₀ r) calls d) j ≡ prediction (P (r .N)) (wave (r .N) (r .taps)) (h d) j) where
+    -- the sum of the responses of the days standing
+    abbrev pub total : ℕ → ℤ
+    total = every.total (fresh 0 0 0) (r .N) (r .taps) (r .C) (zeros 4088) (zeros 511) (r .accepted) calls h convolved
+
+    recovered : (d : ℕ) → Day d → made (w₀ r) calls d ≡ standing
+        → let o = responseOutcome c (m .store) (m .sums) (m .r) (m .mean) (m .room) (m .tags) in
+        (o .0 ≡ 0) × ((k : ℕ) → k < P (r .N) → at (o .1) k ≡ pos (suc (P (r .N))) *ℤ total k)
+    recovered d y e =
+        subst
+        (λ (w : World). let o = responseOutcome (w .campaign) (w .store) (w .sums) (m .r) (m .mean) (m .room) (m .tags) in
+        (o .0 ≡ 0) × ((k : ℕ) → k < P (r .N) → at (o .1) k ≡ pos (suc (P (r .N))) *ℤ total k))
+        (sym (r .world))
+        (every.recovered (fresh 0 0 0) (r .N) (r .taps) (r .C) (zeros 4088) (zeros 511) (r .accepted) calls h convolved d y e (m .r) (m .mean) (m .room) (m .tags) room-for)
+
+-- an ask stands after n turns
+module _ (n : ℕ) (input : List ℕ) (k : ℕ) (stands : standsAt (here n input) (reached n input .left) true ≡ found.Whole item.Ask k) where
+  -- the run that its calls are
+  outside : (p : Phase) → Fits (dayLength (here n input .book .campaign .order)) p item.Ask → Follows (reached n input .calls) (here n input .book .campaign) (here n input .memory) p
+      → Running (reached n input .calls) (here n input .book .campaign) (here n input .memory)
+  outside p asks (between r) = r
+
+  pub run-here : Running (reached n input .calls) (here n input .book .campaign) (here n input .memory)
+  run-here = outside (here n input .book .phase) (fits n input item.Ask k stands) (follows n input)
+
+  abbrev pub askedHere : Applied × Memory
+  askedHere = applied (here n input .book) item.Ask (here n input .memory)
+
+  abbrev pub said : List ℕ
+  said = turn (here n input) (reached n input .left) true .text
+
+  text-is : said ≡ lineBytes (askedHere .0 .line) ++ rowsBytes (askedHere .0 .rows) (askedHere .1 .r) (askedHere .1 .mean)
+  text-is = ap (λ t. t .text) (turns (here n input) (reached n input .left) true ∙ ap (turnOn (here n input)) stands)
+
+  -- it prints the counts that the history says
+  pub prints-counts : said
+      ≡ responseLine (answer (worldOf (here n input)) (response (here n input .memory .r) (here n input .memory .mean) (here n input .memory .room) (here n input .memory .tags))) (historyTally run-here)
+      ++ rowsBytes (askedHere .0 .rows) (askedHere .1 .r) (askedHere .1 .mean)
+  prints-counts = text-is ∙ ap (λ l. lineBytes l ++ rowsBytes (askedHere .0 .rows) (askedHere .1 .r) (askedHere .1 .mean)) (counts-said run-here (here n input .book .phase))
+
+  -- and where some day stands and the recordings then standing are convolutions of whole-number responses, (P+1) times the sum of these
+  module _ (h : ℕ → ℕ → ℤ)
+      (convolved : (d : ℕ) → Day d → made (w₀ run-here) (reached n input .calls) d ≡ standing → (j : ℕ) → j < P (run-here .N)
+      → at (heard (w₀ run-here) (reached n input .calls) d) j ≡ prediction (P (run-here .N)) (wave (run-here .N) (run-here .taps)) (h d) j) where
+    pub prints-recovered : (d : ℕ) → Day d → made (w₀ run-here) (reached n input .calls) d ≡ standing
+        → (said ≡ responseLine 0 (historyTally run-here) ++ rowsBytes (P (run-here .N)) (askedHere .1 .r) (askedHere .1 .mean))
+        × ((j : ℕ) → j < P (run-here .N) → at (askedHere .1 .r) j ≡ pos (suc (P (run-here .N))) *ℤ total run-here h convolved j)
+    unfolding applied
+    prints-recovered d y e =
+        let q = recovered run-here h convolved d y e in (
+          prints-counts
+              ∙ ap (λ a. responseLine a (historyTally run-here) ++ rowsBytes (askedHere .0 .rows) (askedHere .1 .r) (askedHere .1 .mean)) (q .0)
+              ∙ ap (λ a. responseLine 0 (historyTally run-here) ++ rowsBytes a (askedHere .1 .r) (askedHere .1 .mean)) (rows-said run-here (here n input .book .phase) 0 refl (q .0)),
+          q .1,
+        )

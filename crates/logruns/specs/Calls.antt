@@ -1,0 +1,76 @@
+-- Document 01, "The log program": the first turns of the program on a whole input, what they print, and the campaign's calls that they
+-- make. Assumes nothing.
+use mathlib.Core.List.{List, [], _∷_, _++_}
+use mathlib.Core.Bool.{true, cond}
+use Prim.Native.Nat.{ℕ, zero, suc}
+use lib.IntN.{ℤ}
+use lib.ListN.{take, drop}
+use Rattle.campaign.specs.Calls.{verdictNumber}
+use Rattle.history.specs.Run.{World, Call, enter, withdraw, counts, response}
+use Rattle.log.specs.declared.Phase.{Phase}
+use Rattle.log.specs.declared.Phase.the-variants as phase
+use Rattle.log.specs.declared.Item.{Item}
+use Rattle.log.specs.declared.Item.the-variants as item
+use Rattle.log.specs.declared.Found.{Found}
+use Rattle.log.specs.declared.Found.the-variants as found
+use Rattle.report.specs.declared.Line.{Line}
+use Rattle.report.specs.declared.Line.the-variants as line
+use Rattle.logprogram.specs.Program.{Place, firstPlace, standsAt, turn}
+
+-- the record and the memory that the campaign's calls are given
+abbrev pub worldOf : Place → World
+worldOf p = record { campaign = p .book .campaign; store = p .memory .store; sums = p .memory .sums }
+
+-- ---- the calls that a record makes, the latest first
+
+-- the open day is entered with the samples that came
+abbrev pub entry : Phase → List ℤ → List Call
+entry phase.Unbegun y = []
+entry phase.Between y = []
+entry (phase.Open d n) y = enter d (take n y) ∷ []
+entry phase.Stopped y = []
+
+abbrev pub callsOf : Place → Item → List Call
+callsOf p (item.Start N taps C) = []
+callsOf p (item.Open d) = []
+callsOf p (item.Sample v) = []
+callsOf p item.Enter = entry (p .book .phase) (p .memory .recording)
+callsOf p (item.Withdraw d) = withdraw d ∷ []
+callsOf p item.Ask = counts ∷ response (p .memory .r) (p .memory .mean) (p .memory .room) (p .memory .tags) ∷ []
+
+abbrev pub callsAt : Place → Found → List Call
+callsAt p (found.Whole i n) = callsOf p i
+callsAt p found.Short = []
+callsAt p found.Bad = []
+callsAt p found.End = []
+
+-- the answer that a line says
+abbrev pub lineNumber : Line → ℕ
+lineNumber line.Silent = 0
+lineNumber (line.Started answer) = answer
+lineNumber (line.Entered e) = verdictNumber (e .verdict)
+lineNumber (line.Withdrawn d answer) = answer
+lineNumber (line.Answered answer t) = answer
+
+-- ---- the first n turns
+
+-- where the program stands after them, the bytes that are left of the input, what they printed, and the calls that they made
+pub record Reached : Type 0 where
+  pub place : Place
+  pub left : List ℕ
+  pub text : List ℕ
+  pub calls : List Call
+
+abbrev pub onward : Reached → Reached
+onward s =
+    let t = turn (s .place) (s .left) true in
+    record {
+      place = t .place;
+      left = drop (t .used) (s .left);
+      text = s .text ++ t .text;
+      calls = callsAt (s .place) (standsAt (s .place) (s .left) true) ++ s .calls;
+    }
+
+unfoldable pub reached : ℕ → List ℕ → Reached
+reached zero input = record { place = firstPlace; left = input; text = []; calls = [] }
+reached (suc n) input = cond (reached n input .place .going) (onward (reached n input)) (reached n input)

@@ -1,0 +1,2 @@
+-- What a reader must believe of the calls that a log makes.
+pub mod Calls

@@ -1,0 +1,3 @@
+-- The laws of the log program's input.
+mod Behind
+mod Steps
