@@ -30,15 +30,18 @@ turns p bytes ended = refl
 pub turn-by : (p : Place) (bytes : List ℕ) (ended : Bool) (f : Found) → f ≡ standsAt p bytes ended → turn p bytes ended ≡ turnOn p f
 turn-by p bytes ended f e = turns p bytes ended ∙ ap (turnOn p) (sym e)
 
--- where too few bytes are at hand it takes none
-found-short : (p : Place) (f : Found) → turnOn p f .short ≡ true → turnOn p f .used ≡ 0
+-- where too few bytes are at hand nothing is done
+abbrev pub idle : Place → Turn
+idle p = record { text = []; place = p; used = 0; short = true }
+
+found-short : (p : Place) (f : Found) → turnOn p f .short ≡ true → turnOn p f ≡ idle p
 found-short p (found.Whole i n) e = absurd (subst T (sym e) tt)
 found-short p found.Short e = refl
-found-short p found.Bad e = refl
-found-short p found.End e = refl
+found-short p found.Bad e = absurd (subst T (sym e) tt)
+found-short p found.End e = absurd (subst T (sym e) tt)
 
-pub short-takes-none : (p : Place) (bytes : List ℕ) (ended : Bool) → turn p bytes ended .short ≡ true → turn p bytes ended .used ≡ 0
-short-takes-none p bytes ended = rw (turns p bytes ended) (found-short p (standsAt p bytes ended))
+pub short-idle : (p : Place) (bytes : List ℕ) (ended : Bool) → turn p bytes ended .short ≡ true → turn p bytes ended ≡ idle p
+short-idle p bytes ended = rw (turns p bytes ended) (found-short p (standsAt p bytes ended))
 
 -- and those are fewer than five
 found-few : (p : Place) (m : ℕ) {q : Phase} {P : ℕ} (ended : Bool) (f : Found) → Stands q P m ended f → turnOn p f .short ≡ true → m ≤ 4

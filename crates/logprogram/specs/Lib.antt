@@ -1,2 +1,3 @@
 -- What a reader must believe of the log program.
 pub mod Program
+pub mod Reads

@@ -1,9 +1,8 @@
 -- Document 01, "The log program", as one function: from all bytes of the input to all bytes that are printed. What stands at a place of the
 -- log is crate `log`'s `decoded`, what a record does is `logbook`'s `applied`, and a line's bytes are `report`'s: here is only how they
 -- follow each other. Assumes nothing.
-use mathlib.Core.Path.{_≡_}
 use mathlib.Core.List.{List, [], _∷_, _++_}
-use mathlib.Core.Bool.{Bool, true, false, cond}
+use mathlib.Core.Bool.{Bool, true, false}
 use Prim.Native.Nat.{ℕ, zero, suc, _+_}
 use lib.IntN.{ℤ, pos}
 use lib.ListN.{length, take, drop, replicate}
@@ -95,6 +94,10 @@ turn p bytes ended = turnOn p (standsAt p bytes ended)
 abbrev pub placeOf : Bookmark → Memory → Place
 placeOf b m = record { book = b .book; memory = m; offset = b .offset; going = b .going }
 
+-- the same place, and the program stops there
+abbrev pub stoppedMark : Bookmark → Bookmark
+stoppedMark b = record { book = b .book; offset = b .offset; going = false }
+
 abbrev pub turnOf : Turned → Memory → List ℕ → Turn
 turnOf t m out = record { text = take (t .length) out; place = placeOf (t .mark) m; used = t .used; short = t .short }
 
@@ -111,44 +114,3 @@ output (suc n) p bytes = elim (p .going) [
 -- what the program prints: a record takes a byte at least, so there are no more turns than bytes, and one for the end
 unfoldable pub logOutput : List ℕ → List ℕ
 logOutput input = output (suc (length input)) firstPlace input
-
--- ---- as it runs: the input comes in reads
-
--- what the reads give: one that gives nothing is the end of the input
-unfoldable pub given : List (List ℕ) → List ℕ
-given [] = []
-given ([] ∷ reads) = []
-given ((b ∷ bytes) ∷ reads) = (b ∷ bytes) ++ given reads
-
-abbrev pub nextRead : List (List ℕ) → List ℕ
-nextRead [] = []
-nextRead (bytes ∷ reads) = bytes
-
-abbrev pub laterReads : List (List ℕ) → List (List ℕ)
-laterReads [] = []
-laterReads (bytes ∷ reads) = reads
-
-abbrev pub none : List ℕ → Bool
-none [] = true
-none (b ∷ bytes) = false
-
--- what is handed to be written, in at most n turns: the bytes at hand were read and not yet taken; where they are too few to tell, one more
--- read goes behind them
-unfoldable pub session : ℕ → Place → List ℕ → Bool → List (List ℕ) → List ℕ
-session zero p hand ended reads = []
-session (suc n) p hand ended reads = elim (p .going) [
-  | true ↦ let t = turn p hand ended in t .text ++ cond (t .short)
-      (session n (t .place) (hand ++ nextRead reads) (none (nextRead reads)) (laterReads reads))
-      (session n (t .place) (drop (t .used) hand) ended reads)
-  | false ↦ []
-]
-
--- the same from the beginning: what was handed to be written and what the reads gave, until the program stands at a place with some bytes at
--- hand; a turn comes only where it goes on
-pub data Ran : List ℕ → List (List ℕ) → Place → List ℕ → Bool → Type 0 where
-  begun : Ran [] [] firstPlace [] false
-  taken : {text : List ℕ} {reads : List (List ℕ)} {p : Place} {hand : List ℕ} {ended : Bool} → Ran text reads p hand ended → p .going ≡ true
-      → turn p hand ended .short ≡ false → Ran (text ++ turn p hand ended .text) reads (turn p hand ended .place) (drop (turn p hand ended .used) hand) ended
-  more : {text : List ℕ} {reads : List (List ℕ)} {p : Place} {hand : List ℕ} {ended : Bool} → Ran text reads p hand ended → p .going ≡ true
-      → turn p hand ended .short ≡ true → (bytes : List ℕ)
-      → Ran (text ++ turn p hand ended .text) (reads ++ bytes ∷ []) (turn p hand ended .place) (hand ++ bytes) (none bytes)

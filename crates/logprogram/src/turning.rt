@@ -11,12 +11,11 @@ use logbook::applying::apply;
 use logbook::applying::day_length;
 use logbook::applying::unbegun;
 ghost use mathlib.Core.Path.{_≡_};
-ghost use mathlib.Core.Bool.{false};
 ghost use Prim.Native.Nat.{_^_, _≤_, _<_};
 ghost use lib.ListN.{length};
 ghost use Rattle.log.specs.declared.Found.the-variants.{Bad};
 ghost use Rattle.logbook.specs.Book.{Memory, memory, applied};
-ghost use Rattle.logprogram.specs.Program.{firstMemory, firstPlace, goesOn, took, turnOn, turn, placeOf, turnOf};
+ghost use Rattle.logprogram.specs.Program.{firstMemory, firstPlace, goesOn, took, turnOn, turn, placeOf, stoppedMark, turnOf};
 
 // Before the first record.
 pub fn first_mark() -> Bookmark
@@ -43,7 +42,7 @@ fn goes_on(phase: Phase) -> bool
 
 // The same place, and the program stops there.
 pub fn stop(mark: Bookmark) -> Bookmark
-    ensures { λ r. ⌜ r ≡ record { book = mark .book; offset = mark .offset; going = false } ⌝ }
+    ensures { λ r. ⌜ r ≡ stoppedMark mark ⌝ }
 {
     let book = mark.book;
     Bookmark {

@@ -1,2 +1,2 @@
--- What a reader must believe of the log program's input.
-pub mod Reading
+-- What a reader must believe of the log program's input and output.
+pub mod Buffer

@@ -4,18 +4,22 @@ mod running;
 use logprogram::Bookmark;
 use running::run;
 
-// Where the program stands, and the bytes of the buffer that are at hand.
+// What could not be done.
+pub enum Failed {
+    Nothing,
+    // A turn's text was not written whole.
+    Writing,
+    // The input could not be read.
+    Reading,
+}
+
+// Where the program stands, the bytes of the buffer that are at hand, and what failed.
 pub struct Progress {
     pub mark: Bookmark,
     pub from: usize,
     pub to: usize,
     pub ended: bool,
-}
-
-// After a read, and whether it failed.
-pub struct Came {
-    pub progress: Progress,
-    pub failed: bool,
+    pub failed: Failed,
 }
 
 // Memory for the largest order and the most slots that the program takes, and for what is read and written.

@@ -1,6 +1,7 @@
 // One turn after another, until the program stops: each turn's text is written, and where too few bytes are at hand more are read.
-// What a turn prints and does is proved (logprogram); that the reads are the input and the writes the output is not, and cannot be said.
-use crate::Came;
+// No contract can say what is read or written, so a function that reads or writes decides nothing: what its answer leads to is a function of
+// that answer.
+use crate::Failed;
 use crate::Progress;
 use libc::STDIN_FILENO;
 use libc::STDOUT_FILENO;
@@ -11,43 +12,19 @@ use logprogram::turning::first_mark;
 use logprogram::turning::stop;
 use logprogram::turning::take_turn;
 ghost use mathlib.Core.Path.{_≡_};
-ghost use mathlib.Core.Bool.{true, false};
+ghost use mathlib.Core.Bool.{cond};
 ghost use Prim.Native.Nat.{_+_, _-_, _^_, _≤_, _<_};
 ghost use lib.ListN.{length};
 ghost use Rattle.logbook.specs.Book.{memory};
-ghost use Rattle.logprogram.specs.Program.{firstMemory, turn, placeOf};
-ghost use Rattle.meterlog.specs.Reading.{hand, halted, Inside, Read, Onward, Passed, Stepped, Held};
+ghost use Rattle.logprogram.specs.Program.{firstMemory};
+ghost use Rattle.meterlog.specs.Buffer.{midway, Inside, stopping, afterWrite, afterRead, Refilled, Stepped, Ended};
 
-// A proved loop has to end, and nothing says that the input does: no run takes so many turns.
+// 2^60: a proved loop has to end, and nothing says that the input does.
 const MOST_TURNS: u64 = 1152921504606846976;
 
-// One read: the bytes at hand go to the front of the buffer, and more behind them, where there is room. A read that gives none is the end of
-// the input.
-fn refill(p: Progress, bytes: &mut [u8]) -> Came
-    requires { ⌜ (p .from ≤ p .to) × (p .to ≤ length (now bytes)) × (p .to - p .from < length (now bytes)) ⌝ }
-    ensures { λ r. ⌜ Read (p .mark) (hand p (now (bytes .entry))) (r .progress) (now (bytes .exit)) × Inside (r .progress) (now (bytes .exit)) ⌝ }
-{
-    let from = p.from;
-    let to = p.to;
-    let mark = p.mark;
-    to_front(bytes, from, to);
-    let left = to - from;
-    let got = libc::read(STDIN_FILENO, &mut bytes[left..]);
-    let n = io::count(got, &bytes[left..]);
-    Came {
-        progress: Progress {
-            mark,
-            from: 0,
-            to: left + n,
-            ended: n == 0,
-        },
-        failed: got < 0,
-    }
-}
-
 // Nothing more is read or written.
-fn halt(p: Progress) -> Progress
-    ensures { λ x. ⌜ x ≡ record { mark = halted (p .mark); from = p .from; to = p .to; ended = p .ended } ⌝ }
+fn halt(p: Progress, failed: Failed) -> Progress
+    ensures { λ x. ⌜ x ≡ stopping p failed ⌝ }
 {
     let mark = p.mark;
     let stopped = stop(mark);
@@ -56,51 +33,85 @@ fn halt(p: Progress) -> Progress
         from: p.from,
         to: p.to,
         ended: p.ended,
+        failed,
     }
 }
 
-// The input cannot be read: the log is bad here.
-fn unread(p: Progress, out: &mut [u8]) -> Progress
-    requires { ⌜ 128 ≤ length (now out) ⌝ }
-    ensures { λ x. ⌜ x ≡ record { mark = halted (p .mark); from = p .from; to = p .to; ended = p .ended } ⌝ }
-{
-    let mark = p.mark;
-    let t = bad(mark, out);
-    let length = t.length;
-    io::write_all(STDOUT_FILENO, &out[..length]);
-    halt(p)
-}
-
-fn more(p: Progress, bytes: &mut [u8], out: &mut [u8]) -> Progress
-    requires { ⌜ (p .from ≤ p .to) × (p .to ≤ length (now bytes)) × (p .to - p .from < length (now bytes)) × (128 ≤ length (now out)) ⌝ }
-    ensures { λ x. ⌜ Onward (p .mark) (hand p (now (bytes .entry))) x (now (bytes .exit)) × Inside x (now (bytes .exit)) ⌝ }
-{
-    let came = refill(p, bytes);
-    if came.failed {
-        return unread(p, out);
-    }
-    came.progress
-}
-
-// What a turn leaves: the bytes that it took are passed, and where it found too few, one read goes behind the rest.
-fn pass(p: Progress, t: Turned, bytes: &mut [u8], out: &mut [u8]) -> Progress
-    requires { ⌜ (p .from + t .used ≤ p .to) × (p .to ≤ length (now bytes)) × (t .short ≡ true → p .to - (p .from + t .used) < length (now bytes)) × (128 ≤ length (now out)) ⌝ }
-    ensures { λ x. ⌜ Passed p t (now (bytes .entry)) x (now (bytes .exit)) × Inside x (now (bytes .exit)) ⌝ }
+// After a turn whose text was handed to be written.
+fn written(p: Progress, t: Turned, wrote: bool) -> Progress
+    requires { ⌜ p .from + t .used ≤ p .to ⌝ }
+    ensures { λ x. ⌜ x ≡ afterWrite p t wrote ⌝ }
 {
     let mark = t.mark;
-    let rest = Progress {
+    let next = Progress {
         mark,
         from: p.from + t.used,
         to: p.to,
         ended: p.ended,
+        failed: Failed::Nothing,
     };
-    if t.short {
-        return more(rest, bytes, out);
+    if wrote {
+        return next;
     }
-    rest
+    halt(next, Failed::Writing)
 }
 
-// One turn, and its text is written.
+// After a read of n bytes.
+fn received(p: Progress, got: isize, n: usize) -> Progress
+    requires { ⌜ (p .from ≤ p .to) × (p .to - p .from + n < 2 ^ 64) ⌝ }
+    ensures { λ x. ⌜ x ≡ afterRead p got n ⌝ }
+{
+    let mark = p.mark;
+    let next = Progress {
+        mark,
+        from: 0,
+        to: p.to - p.from + n,
+        ended: n == 0,
+        failed: Failed::Nothing,
+    };
+    if got < 0 {
+        return halt(next, Failed::Reading);
+    }
+    next
+}
+
+// One read: the bytes at hand go to the front of the buffer, and more behind them, where there is room.
+fn refill(p: Progress, bytes: &mut [u8]) -> Progress
+    requires { ⌜ Inside p (now bytes) × (p .to - p .from < length (now bytes)) ⌝ }
+    ensures { λ x. ⌜ Refilled p (now (bytes .entry)) x (now (bytes .exit)) × Inside x (now (bytes .exit)) ⌝ }
+{
+    let from = p.from;
+    let to = p.to;
+    to_front(bytes, from, to);
+    let left = to - from;
+    let got = libc::read(STDIN_FILENO, &mut bytes[left..]);
+    let n = io::count(got, &bytes[left..]);
+    received(p, got, n)
+}
+
+// Where the input cannot be read the log is bad.
+fn tell_unread(p: Progress, out: &mut [u8])
+    requires { ⌜ 128 ≤ length (now out) ⌝ }
+{
+    let failed = p.failed;
+    let mark = p.mark;
+    if let Failed::Reading = failed {
+        let t = bad(mark, out);
+        let length = t.length;
+        io::write_all(STDOUT_FILENO, &out[..length]);
+    }
+}
+
+fn read_more(p: Progress, bytes: &mut [u8], out: &mut [u8]) -> Progress
+    requires { ⌜ Inside p (now bytes) × (p .to - p .from < length (now bytes)) × (128 ≤ length (now out)) ⌝ }
+    ensures { λ x. ⌜ Refilled p (now (bytes .entry)) x (now (bytes .exit)) × Inside x (now (bytes .exit)) ⌝ }
+{
+    let next = refill(p, bytes);
+    tell_unread(next, out);
+    next
+}
+
+// One turn: its text is written, or, where too few bytes are at hand, more are read.
 fn step(
     p: Progress,
     bytes: &mut [u8],
@@ -113,12 +124,13 @@ fn step(
     room: &mut [i64],
     tags: &mut [u16],
 ) -> Progress
-    requires { ⌜ (p .from ≤ p .to) × (p .to ≤ length (now bytes)) × (p .mark .offset < 2 ^ 63) ⌝ }
-    requires { ⌜ (511 ≤ length (now r)) × (511 ≤ length (now mean)) × (65536 ≤ length (now out)) × (5 ≤ length (now bytes)) ⌝ }
-    ensures { λ x. ⌜ Stepped (turn (placeOf (p .mark) (memory (now (store .entry)) (now (sums .entry)) (now (recording .entry)) (now (r .entry)) (now (mean .entry)) (now (room .entry)) (now (tags .entry)))) (hand p (now (bytes .entry))) (p .ended))
-        p (now (bytes .entry)) x (now (bytes .exit))
-        (placeOf (x .mark) (memory (now (store .exit)) (now (sums .exit)) (now (recording .exit)) (now (r .exit)) (now (mean .exit)) (now (room .exit)) (now (tags .exit)))) ⌝ }
-    ensures { λ x. ⌜ Inside x (now (bytes .exit)) × (x .mark .offset ≤ p .mark .offset + 5) ⌝ }
+    requires { ⌜ Inside p (now bytes) × (p .mark .offset < 2 ^ 63) × (5 ≤ length (now bytes)) ⌝ }
+    requires { ⌜ (511 ≤ length (now r)) × (511 ≤ length (now mean)) × (65536 ≤ length (now out)) ⌝ }
+    ensures { λ x. ⌜ Stepped
+        (midway p (now (bytes .entry)) (memory (now (store .entry)) (now (sums .entry)) (now (recording .entry)) (now (r .entry)) (now (mean .entry)) (now (room .entry)) (now (tags .entry))))
+        (midway x (now (bytes .exit)) (memory (now (store .exit)) (now (sums .exit)) (now (recording .exit)) (now (r .exit)) (now (mean .exit)) (now (room .exit)) (now (tags .exit))))
+        (x .failed) ⌝ }
+    ensures { λ x. ⌜ Inside x (now (bytes .exit)) ⌝ }
 {
     let mark = p.mark;
     let from = p.from;
@@ -136,22 +148,23 @@ fn step(
         tags,
         out,
     );
-    let length = t.length;
-    if !io::write_all(STDOUT_FILENO, &out[..length]) {
-        return halt(p);
+    if t.short {
+        return read_more(p, bytes, out);
     }
-    pass(p, t, bytes, out)
+    let length = t.length;
+    let wrote = io::write_all(STDOUT_FILENO, &out[..length]);
+    written(p, t, wrote)
 }
 
 // One turn less, and none once the program has stopped.
 fn turns_left(going: bool, turns: u64) -> u64
     requires { ⌜ 0 < turns ⌝ }
-    ensures { λ r. ⌜ (r < turns) × (going ≡ false → r ≡ 0) ⌝ }
+    ensures { λ r. ⌜ r ≡ cond going (turns - 1) 0 ⌝ }
 {
     if going { turns - 1 } else { 0 }
 }
 
-// All turns, from the beginning: where the program stands after them.
+// All turns, from the beginning.
 pub fn run(
     bytes: &mut [u8],
     out: &mut [u8],
@@ -165,13 +178,16 @@ pub fn run(
 ) -> Progress
     requires { ⌜ memory (now store) (now sums) (now recording) (now r) (now mean) (now room) (now tags) ≡ firstMemory ⌝ }
     requires { ⌜ (65536 ≤ length (now out)) × (5 ≤ length (now bytes)) ⌝ }
-    ensures { λ x. ⌜ Held (placeOf (x .mark) (memory (now (store .exit)) (now (sums .exit)) (now (recording .exit)) (now (r .exit)) (now (mean .exit)) (now (room .exit)) (now (tags .exit)))) (hand x (now (bytes .exit))) (x .ended) ⌝ }
+    ensures { λ x. ⌜ Ended
+        (midway x (now (bytes .exit)) (memory (now (store .exit)) (now (sums .exit)) (now (recording .exit)) (now (r .exit)) (now (mean .exit)) (now (room .exit)) (now (tags .exit))))
+        (x .failed) ⌝ }
 {
     let mut p = Progress {
         mark: first_mark(),
         from: 0,
         to: 0,
         ended: false,
+        failed: Failed::Nothing,
     };
     let mut turns = MOST_TURNS;
     while 0 < turns {

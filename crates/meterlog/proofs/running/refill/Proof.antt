@@ -1,14 +1,37 @@
 -- `meterlog::running::refill` meets its contract. Assumes nothing.
-use mathlib.Core.Path.{refl, ap, _∙_}
-use mathlib.Core.List.{_++_}
-use Prim.Native.Nat.{_-_, _≤_}
+use mathlib.Core.List.{List}
+use Prim.Native.Nat.{ℕ, _+_, _-_, _≤_}
 use native.Mathlib.Omega.{arith}
 use borrow.Author.Needs.{needs}
 use borrow.Rule.Slice.PartMut.{same-len-mid}
-use lib.ListN.{length, take, length-take, length-drop}
-use Rattle.meterlog.proofs.Behind.{read-behind, read-none}
+use lib.ListN.{length, length-take, length-drop}
+use mir.Syntax.{w64}
+use mir.Val.{toZ, ofZ}
+use Rattle.meterlog.proofs.Behind.{refilled}
 use Rattle.meterlog.proofs.running.refill.Statement.{statement}
 use Rattle.meterlog.proofs.running.refill.Tie as tie
+
+abbrev start : tie.After-count → tie.Start
+start c = c .before .before .before .before .before .before .before .before .before .before .before .before
+
+-- how many bytes were at hand, the buffer once they are at its front, and what the read left behind them
+abbrev left : tie.After-count → ℕ
+left c = start c .args .p .to - start c .args .p .from
+
+abbrev front : tie.After-count → List ℕ
+front c = c .before .before .before .before .before .before .before .before .before .to-front .last .0
+
+abbrev part : tie.After-count → List ℕ
+part c = c .before .before .before .before .before .read .last .1 .0
+
+-- what was read fits there
+fits : (c : tie.After-count) → (left c ≤ length (front c)) × (c .count .result ≤ length (part c)) × (left c + c .count .result ≤ length (front c))
+fits c =
+    let k = c .before .before .before .before .before .read .kept .1 .0 in
+    let whole = same-len-mid (left c) (length (front c) - left c) (front c) (part c) k in
+    let l : left c ≤ length (front c) = omega (arith, start c .pre, c .before .before .before .before .before .before .before .before .before .to-front .kept .0) in
+    let m : c .count .result ≤ length (part c) = omega (arith, whole, simp (length-take, length-drop) at k, simp (length-take, length-drop) at (c .count .ensures .0 .0)) in
+    (l, m, omega (arith, simp (length-take, length-drop) at k))
 
 to-front-requires : tie.Need-to-front-requires
 to-front-requires c κs = search needs
@@ -40,31 +63,19 @@ part-count-end c = search needs
 count-requires : tie.Need-count-requires
 count-requires c κs = search needs
 
-add-t13 : tie.Need-add-t13
-add-t13 c = search needs
+received-requires : tie.Need-received-requires
+received-requires c κs = (start c .pre .0 .forth, omega (arith, fits c, c .before .before .before .before .before .before .before .before .before .to-front .kept .0))
 
 same-length : tie.Need-same-length
 same-length c = search needs
 
 returns : tie.Need-returns
 returns c =
-    let s = c .before .before .before .before .before .before .before .before .before .before .before .before .before in
-    let t = c .before .before .before .before .before .before .before .before .before .to-front in
-    let left = s .args .p .to - s .args .p .from in
-    let part = c .before .before .before .before .before .read .last .1 .0 in
-    let n = c .count .result in
-    let k = c .before .before .before .before .before .read .kept .1 .0 in
-    let whole = same-len-mid left (length (t .last .0) - left) (t .last .0) part k in
-    let l : left ≤ length (t .last .0) = omega (arith, s .pre, t .kept .0) in
-    let m : n ≤ length part = omega (arith, whole, simp (length-take, length-drop) at k, simp (length-take, length-drop) at (c .count .ensures .0 .0)) in (
-      record {
-        came = take n part;
-        behind = read-behind left n (t .last .0) part _ l m ∙ ap (λ x. x ++ take n part) (t .ensures);
-        ends = read-none n part m;
-        same = refl;
-      },
-      record { forth = omega arith; inside = omega (arith, whole, simp (length-take, length-drop) at k) },
-    )
+    let b = c .before in
+    let e = b .before .before .before .before .before .before .before .before .before .to-front .ensures in
+    let whole = same-len-mid (left b) (length (front b) - left b) (front b) (part b) (b .before .before .before .before .before .read .kept .1 .0) in
+    rw (c .received .ensures)
+    (refilled (start b .args .p) (toZ w64 (ofZ w64 (b .before .before .before .before .before .read .result))) (b .count .result) (start b .args .bytes .now) (front b) (part b) _ (fits b .0) (fits b .1) e (omega (arith, fits b, whole)))
 
 pub refill-spec : {M : Type 1} → statement M
 refill-spec =
@@ -80,6 +91,6 @@ refill-spec =
     part-count-start
     part-count-end
     count-requires
-    add-t13
+    received-requires
     same-length
     returns)

@@ -1,5 +1,5 @@
 -- `meterlog::running::run` meets its contract: the bytes at hand lie in the buffer, the offset has room for every turn that is left, and the
--- program stands where turns from the beginning lead. Assumes nothing.
+-- program is where turns from the beginning lead. Assumes nothing.
 use mathlib.Core.Path.{_≡_, refl, sym, ap, subst, _∙_}
 use mathlib.Core.Bool.{false}
 use mathlib.Core.List.{List}
@@ -9,9 +9,10 @@ use lib.Dec.{T}
 use lib.IntN.{ℤ, pos}
 use lib.ListN.{length, length-replicate}
 use Rattle.logbook.specs.Book.{Memory, memory}
-use Rattle.logprogram.specs.Program.{Place, placeOf}
-use Rattle.meterlog.specs.Reading.{hand, Held}
-use Rattle.meterlog.proofs.Steps.{held-first, held-step, goes}
+use Rattle.logprogram.specs.Program.{Place}
+use Rattle.logprogram.specs.Reads.{mostTurns}
+use Rattle.meterlog.specs.Buffer.{midway, Inside}
+use Rattle.meterlog.proofs.Steps.{offset-after, fewer, goes, Held, held-first, held-step, held-last}
 use Rattle.meterlog.proofs.running.run.Statement.{statement}
 use Rattle.meterlog.proofs.running.run.Tie as tie
 
@@ -29,9 +30,9 @@ record Lent (bytes₀ out₀ : List ℕ) (store₀ sums₀ recording₀ r₀ mea
 
 abbrev Inv-loop : tie.InvT-loop
 Inv-loop bytes₀ out₀ store₀ sums₀ recording₀ r₀ mean₀ room₀ tags₀ p₀ turns₀ bytes out store sums recording r mean room tags p turns =
-    (p .from ≤ p .to) × (p .to ≤ length bytes) × (p .mark .offset + 5 * turns ≤ 5764607523034234880)
+    Inside p bytes × (p .mark .offset + 5 * turns ≤ 5 * mostTurns) × (p .mark .going ≡ false → turns ≡ 0)
     × Lent bytes₀ out₀ store₀ sums₀ recording₀ r₀ mean₀ room₀ tags₀ bytes out store sums recording r mean room tags
-    × (p .mark .going ≡ false → turns ≡ 0) × Held (placeOf (p .mark) (memory store sums recording r mean room tags)) (hand p bytes) (p .ended)
+    × Held turns (midway p bytes (memory store sums recording r mean room tags)) (p .failed)
 
 abbrev μ-loop : tie.MeasureT-loop
 μ-loop bytes₀ out₀ store₀ sums₀ recording₀ r₀ mean₀ room₀ tags₀ p₀ turns₀ bytes out store sums recording r mean room tags p turns = turns
@@ -42,11 +43,10 @@ first-mark-requires c κs = tt
 loop-holds : tie.Need-loop-holds Inv-loop μ-loop
 loop-holds c =
     let s = c .before .before .before .before in (
-      omega arith,
-      omega arith,
+      record { forth = omega arith; inside = omega arith },
       omega (arith, ap (λ (p : Place). p .offset) (c .first-mark .ensures)),
-      record { same-bytes = refl; same-out = refl; same-store = refl; same-sums = refl; same-recording = refl; same-r = refl; same-mean = refl; same-room = refl; same-tags = refl },
       λ e. absurd (subst T (sym (ap (λ (p : Place). p .going) (c .first-mark .ensures)) ∙ e) tt),
+      record { same-bytes = refl; same-out = refl; same-store = refl; same-sums = refl; same-recording = refl; same-r = refl; same-mean = refl; same-room = refl; same-tags = refl },
       held-first _ (c .first-mark .result) (s .pre .0) (c .first-mark .ensures),
     )
 
@@ -62,28 +62,27 @@ step-requires c κs =
     let s = c .before .before .before .before .before .before .before .before .before .before .before .before .before .before .before in
     let l = c .before .before .before .before .before .before .before .before .before .before .loop in
     let long = lengths s in (
-      (l .inv .0, l .inv .1, omega (arith, l .inv .2)),
-      (omega (arith, long .0, l .inv .3 .same-r), omega (arith, long .1, l .inv .3 .same-mean), omega (arith, s .pre .1 .0, l .inv .3 .same-out), omega (arith, s .pre .1 .1, l .inv .3 .same-bytes)),
+      (l .inv .0, omega (arith, l .inv .1), omega (arith, s .pre .1 .1, l .inv .3 .same-bytes)),
+      (omega (arith, long .0, l .inv .3 .same-r), omega (arith, long .1, l .inv .3 .same-mean), omega (arith, s .pre .1 .0, l .inv .3 .same-out)),
     )
 
 turns-left-requires : tie.Need-turns-left-requires Inv-loop μ-loop
 turns-left-requires c κs = c .before .before .before .before .before .before .before .before .before .before .before .before .before .before .before .before .before .before .before .before .before .before .before .loop-test .taken
 
 loop-less : tie.Need-loop-less Inv-loop μ-loop
-loop-less c = c .turns-left .ensures .0
+loop-less c = fewer (c .before .before .before .before .before .before .before .before .before .before .before .before .before .before .step .result .mark .going) (c .before .before .before .before .before .before .before .before .before .before .before .before .before .before .before .before .before .before .before .before .before .before .before .before .before .loop .turns) (c .turns-left .ensures) (c .before .before .before .before .before .before .before .before .before .before .before .before .before .before .before .before .before .before .before .before .before .before .before .before .loop-test .taken)
 
 loop-again : tie.Need-loop-again Inv-loop μ-loop
 loop-again c =
     let l = c .before .before .before .before .before .before .before .before .before .before .before .before .before .before .before .before .before .before .before .before .before .before .before .before .before .loop in
     let q = c .before .before .before .before .before .before .before .before .before .before .before .before .before .before .step .ensures in
-    let e = q .1 in
-    let k = c .before .before .before .before .before .before .before .before .before .before .before .before .before .before .step .kept in (
-      e .0 .forth,
-      e .0 .inside,
-      omega (arith, e .1, c .turns-left .ensures .0, l .inv .2),
+    let k = c .before .before .before .before .before .before .before .before .before .before .before .before .before .before .step .kept in
+    let some = c .before .before .before .before .before .before .before .before .before .before .before .before .before .before .before .before .before .before .before .before .before .before .before .before .loop-test .taken in (
+      q .1,
+      omega (arith, offset-after (q .0), fewer (c .before .before .before .before .before .before .before .before .before .before .before .before .before .before .step .result .mark .going) (l .turns) (c .turns-left .ensures) some, l .inv .1),
+      λ e. c .turns-left .ensures ∙ rw e refl,
       record { same-bytes = k .1 .0 ∙ l .inv .3 .same-bytes; same-out = k .1 .1 .0 ∙ l .inv .3 .same-out; same-store = k .1 .1 .1 .0 ∙ l .inv .3 .same-store; same-sums = k .1 .1 .1 .1 .0 ∙ l .inv .3 .same-sums; same-recording = k .1 .1 .1 .1 .1 .0 ∙ l .inv .3 .same-recording; same-r = k .1 .1 .1 .1 .1 .1 .0 ∙ l .inv .3 .same-r; same-mean = k .1 .1 .1 .1 .1 .1 .1 .0 ∙ l .inv .3 .same-mean; same-room = k .1 .1 .1 .1 .1 .1 .1 .1 .0 ∙ l .inv .3 .same-room; same-tags = k .1 .1 .1 .1 .1 .1 .1 .1 .1 .0 ∙ l .inv .3 .same-tags },
-      c .turns-left .ensures .1,
-      held-step _ _ (l .inv .5) (goes (l .p .mark .going) (l .turns) (l .inv .4) (c .before .before .before .before .before .before .before .before .before .before .before .before .before .before .before .before .before .before .before .before .before .before .before .before .loop-test .taken)) (q .0),
+      rw (c .turns-left .ensures) (held-step some (l .inv .4) (goes (l .p .mark .going) (l .turns) (l .inv .2) some) (q .0)),
     )
 
 same-length : tie.Need-same-length Inv-loop μ-loop
@@ -114,7 +113,7 @@ same-length-9 : tie.Need-same-length-9 Inv-loop μ-loop
 same-length-9 c = c .before .loop .inv .3 .same-tags
 
 returns : tie.Need-returns Inv-loop μ-loop
-returns c = c .before .loop .inv .5
+returns c = let z : c .before .loop .turns ≡ 0 = omega arith in held-last (rw z at (c .before .loop .inv .4))
 
 pub run-spec : {M : Type 1} → statement M
 run-spec =
