@@ -37,6 +37,8 @@ use Rattle.logbook.proofs.Starts as starting
 use Rattle.logprogram.specs.Program.{Place, zeros, firstMemory, turnOn, standsAt}
 use Rattle.logprogram.proofs.Turns.{StandsAt, found-at, turns}
 use Rattle.logruns.specs.Calls.{callsOf, callsAt, Reached, onward, reached}
+use Rattle.logruns.proofs.Recording.{Sampled, SampledAt, samples-held}
+use Rattle.logruns.proofs.Recording as recording
 
 -- ---- what is claimed of a place
 
@@ -142,32 +144,34 @@ module _ (D : ℕ) (c : Campaign) (m : Memory) (offset : ℕ) (going : Bool) (ca
   abbrev standing-at : Phase → Place
   standing-at p = record { book = record { phase = p; campaign = c }; memory = m; offset = offset; going = going }
 
-  record-follows : (p : Phase) (i : Item) (k : ℕ) → Fits D p i → Follows calls c m p
-      → FollowsAt (callsOf (standing-at p) i ++ calls) (turnOn (standing-at p) (found.Whole i k) .place)
+  record-follows : (y : List ℤ) (p : Phase) (i : Item) (k : ℕ) → Fits D p i → Sampled y (m .recording) p → Follows calls c m p
+      → FollowsAt (callsOf (standing-at p) y i ++ calls) (turnOn (standing-at p) (found.Whole i k) .place)
   unfolding applied run
-  record-follows p i k (starts {N} {taps} {C}) (unbegun e f g) = start-follows c m calls N taps C e f g
-  record-follows p i k opens (between r) = inside r
-  record-follows p i k (withdraws {d}) (between r) = between (onward-running r (ap (λ w. after w (withdraw d)) (r .world)) (r .room))
-  record-follows p i k asks (between r) =
+  record-follows y p i k (starts {N} {taps} {C}) _ (unbegun e f g) = start-follows c m calls N taps C e f g
+  record-follows y p i k opens _ (between r) = inside r
+  record-follows y p i k (withdraws {d}) _ (between r) = between (onward-running r (ap (λ w. after w (withdraw d)) (r .world)) (r .room))
+  record-follows y p i k asks _ (between r) =
       between (onward-running r (r .world) (asked-room c (m .store) (m .sums) (m .r) (m .mean) (m .room) (m .tags) (order-few r) (r .room)))
-  record-follows p i k (samples {d} {n} {v} h) (inside r) = sample-follows c m calls d n v (ltb n (length (m .recording))) r
-  record-follows p i k (enters {d} {n}) (inside r) = between (onward-running r (ap (λ w. after w (enter d (take n (m .recording)))) (r .world)) (r .room))
+  record-follows y p i k (samples {d} {n} {v} h) _ (inside r) = sample-follows c m calls d n v (ltb n (length (m .recording))) r
+  record-follows y p i k (enters {d} {n}) (recording.inside e) (inside r) =
+      rw (← e) (between (onward-running r (ap (λ w. after w (enter d (take n (m .recording)))) (r .world)) (r .room)))
 
 -- ---- all records
 
-turn-follows : (p : Place) (bytes : List ℕ) (calls : List Call) (f : Found) → StandsAt p bytes true f → FollowsAt calls p → FollowsAt (callsAt p f ++ calls) (turnOn p f .place)
-turn-follows p bytes calls f (whole {i = i} {n = k} fit _ _ _) s =
-    record-follows (dayLength (p .book .campaign .order)) (p .book .campaign) (p .memory) (p .offset) (p .going) calls (p .book .phase) i k fit s
-turn-follows p bytes calls f bad s = s
-turn-follows p bytes calls f end s = s
+turn-follows : (p : Place) (bytes : List ℕ) (y : List ℤ) (calls : List Call) (f : Found) → StandsAt p bytes true f → SampledAt y p → FollowsAt calls p
+    → FollowsAt (callsAt p y f ++ calls) (turnOn p f .place)
+turn-follows p bytes y calls f (whole {i = i} {n = k} fit _ _ _) h s =
+    record-follows (dayLength (p .book .campaign .order)) (p .book .campaign) (p .memory) (p .offset) (p .going) calls y (p .book .phase) i k fit (h .day) s
+turn-follows p bytes y calls f bad h s = s
+turn-follows p bytes y calls f end h s = s
 
-going-follows : (s : Reached) (b : Bool) → FollowsAt (s .calls) (s .place) → FollowsAt (cond b (onward s) s .calls) (cond b (onward s) s .place)
-going-follows s false f = f
-going-follows s true f =
+going-follows : (s : Reached) (b : Bool) → SampledAt (s .samples) (s .place) → FollowsAt (s .calls) (s .place) → FollowsAt (cond b (onward s) s .calls) (cond b (onward s) s .place)
+going-follows s false h f = f
+going-follows s true h f =
     rw (turns (s .place) (s .left) true)
-    (turn-follows (s .place) (s .left) (s .calls) (standsAt (s .place) (s .left) true) (found-at (s .place) (s .left) true) f)
+    (turn-follows (s .place) (s .left) (s .samples) (s .calls) (standsAt (s .place) (s .left) true) (found-at (s .place) (s .left) true) h f)
 
 pub follows : (n : ℕ) (input : List ℕ) → FollowsAt (reached n input .calls) (reached n input .place)
 unfolding reached
 follows zero input = unbegun refl refl refl
-follows (suc n) input = going-follows (reached n input) (reached n input .place .going) (follows n input)
+follows (suc n) input = going-follows (reached n input) (reached n input .place .going) (samples-held n input) (follows n input)

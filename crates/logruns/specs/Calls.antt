@@ -4,7 +4,7 @@ use mathlib.Core.List.{List, [], _∷_, _++_}
 use mathlib.Core.Bool.{true, cond}
 use Prim.Native.Nat.{ℕ, zero, suc}
 use lib.IntN.{ℤ}
-use lib.ListN.{take, drop}
+use lib.ListN.{drop}
 use Rattle.campaign.specs.Calls.{verdictNumber}
 use Rattle.history.specs.Run.{World, Call, enter, withdraw, counts, response}
 use Rattle.log.specs.declared.Phase.{Phase}
@@ -21,28 +21,44 @@ use Rattle.logprogram.specs.Program.{Place, firstPlace, standsAt, turn}
 abbrev pub worldOf : Place → World
 worldOf p = record { campaign = p .book .campaign; store = p .memory .store; sums = p .memory .sums }
 
+-- ---- the samples that came since the day was opened, in their order
+
+abbrev pub samplesOf : List ℤ → Item → List ℤ
+samplesOf y (item.Start N taps C) = y
+samplesOf y (item.Open d) = []
+samplesOf y (item.Sample v) = y ++ v ∷ []
+samplesOf y item.Enter = y
+samplesOf y (item.Withdraw d) = y
+samplesOf y item.Ask = y
+
+abbrev pub samplesAt : List ℤ → Found → List ℤ
+samplesAt y (found.Whole i n) = samplesOf y i
+samplesAt y found.Short = y
+samplesAt y found.Bad = y
+samplesAt y found.End = y
+
 -- ---- the calls that a record makes, the latest first
 
 -- the open day is entered with the samples that came
 abbrev pub entry : Phase → List ℤ → List Call
 entry phase.Unbegun y = []
 entry phase.Between y = []
-entry (phase.Open d n) y = enter d (take n y) ∷ []
+entry (phase.Open d n) y = enter d y ∷ []
 entry phase.Stopped y = []
 
-abbrev pub callsOf : Place → Item → List Call
-callsOf p (item.Start N taps C) = []
-callsOf p (item.Open d) = []
-callsOf p (item.Sample v) = []
-callsOf p item.Enter = entry (p .book .phase) (p .memory .recording)
-callsOf p (item.Withdraw d) = withdraw d ∷ []
-callsOf p item.Ask = counts ∷ response (p .memory .r) (p .memory .mean) (p .memory .room) (p .memory .tags) ∷ []
+abbrev pub callsOf : Place → List ℤ → Item → List Call
+callsOf p y (item.Start N taps C) = []
+callsOf p y (item.Open d) = []
+callsOf p y (item.Sample v) = []
+callsOf p y item.Enter = entry (p .book .phase) y
+callsOf p y (item.Withdraw d) = withdraw d ∷ []
+callsOf p y item.Ask = counts ∷ response (p .memory .r) (p .memory .mean) (p .memory .room) (p .memory .tags) ∷ []
 
-abbrev pub callsAt : Place → Found → List Call
-callsAt p (found.Whole i n) = callsOf p i
-callsAt p found.Short = []
-callsAt p found.Bad = []
-callsAt p found.End = []
+abbrev pub callsAt : Place → List ℤ → Found → List Call
+callsAt p y (found.Whole i n) = callsOf p y i
+callsAt p y found.Short = []
+callsAt p y found.Bad = []
+callsAt p y found.End = []
 
 -- the answer that a line says
 abbrev pub lineNumber : Line → ℕ
@@ -54,10 +70,12 @@ lineNumber (line.Answered answer t) = answer
 
 -- ---- the first n turns
 
--- where the program stands after them, the bytes that are left of the input, what they printed, and the calls that they made
+-- where the program stands after them, the bytes that are left of the input, the samples of the day, what they printed, and the calls that they
+-- made
 pub record Reached : Type 0 where
   pub place : Place
   pub left : List ℕ
+  pub samples : List ℤ
   pub text : List ℕ
   pub calls : List Call
 
@@ -67,10 +85,11 @@ onward s =
     record {
       place = t .place;
       left = drop (t .used) (s .left);
+      samples = samplesAt (s .samples) (standsAt (s .place) (s .left) true);
       text = s .text ++ t .text;
-      calls = callsAt (s .place) (standsAt (s .place) (s .left) true) ++ s .calls;
+      calls = callsAt (s .place) (s .samples) (standsAt (s .place) (s .left) true) ++ s .calls;
     }
 
 unfoldable pub reached : ℕ → List ℕ → Reached
-reached zero input = record { place = firstPlace; left = input; text = []; calls = [] }
+reached zero input = record { place = firstPlace; left = input; samples = []; text = []; calls = [] }
 reached (suc n) input = cond (reached n input .place .going) (onward (reached n input)) (reached n input)

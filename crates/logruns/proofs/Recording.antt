@@ -1,0 +1,98 @@
+-- In an open day the samples that came, as their bytes are decoded, are those at the front of the recording's room. Assumes nothing.
+use mathlib.Core.Path.{_≡_, refl, ap, _∙_}
+use mathlib.Core.Bool.{Bool, true, false, cond}
+use mathlib.Core.List.{List, [], _∷_, _++_}
+use Prim.Native.Nat.{ℕ, zero, suc, _+_, _≤_, _<_}
+use native.Mathlib.Numerals.{add-one}
+use native.Mathlib.Omega.{arith}
+use borrow.Author.Tests.{lt-ltb, leb-true}
+use lib.Dec.{ltb, leb}
+use lib.IntN.{ℤ, pos}
+use lib.ListN.{length, set, take, length-set, length-replicate}
+use lib.Pow.{pow-mono}
+use lib.Seq.{take-suc-set}
+use Rattle.sums.specs.Refusals.{answered}
+use Rattle.register.specs.Register.{P}
+use Rattle.records.specs.declared.Campaign.{Campaign}
+use Rattle.campaign.specs.Calls.{startOutcome}
+use Rattle.history.proofs.Steps.{outcome-cases}
+use Rattle.log.specs.declared.Phase.{Phase}
+use Rattle.log.specs.declared.Phase.the-variants as phase
+use Rattle.log.specs.declared.Item.{Item}
+use Rattle.log.specs.declared.Found.{Found}
+use Rattle.log.proofs.Finding.{Fits, starts, opens, withdraws, asks, samples, enters, whole, bad, end}
+use Rattle.logbook.specs.Book.{Memory, dayLength, logStartChecks, over, startedBy, beganOutcome, putSample, applied}
+use Rattle.logbook.specs.declared.Applied.{Applied}
+use Rattle.logprogram.specs.Program.{Place, turnOn, standsAt}
+use Rattle.logprogram.proofs.Turns.{StandsAt, found-at, turns}
+use Rattle.logruns.specs.Calls.{samplesOf, samplesAt, Reached, onward, reached}
+
+-- y are the samples that came, and the recording's room is as it was lent
+pub data Sampled (y recording : List ℤ) : Phase → Type 0 where
+  unbegun : Sampled y recording phase.Unbegun
+  between : Sampled y recording phase.Between
+  inside : {d n : ℕ} → take n recording ≡ y → Sampled y recording (phase.Open d n)
+  stopped : Sampled y recording phase.Stopped
+
+pub record SampledAt (y : List ℤ) (p : Place) : Type 0 where
+  pub room : length (p .memory .recording) ≡ 511
+  pub day : Sampled y (p .memory .recording) (p .book .phase)
+
+-- ---- one record
+
+-- a day of the program has room
+day-fits : (N : ℕ) → dayLength N ≤ 511
+day-fits N = go (leb N 9) refl
+  where
+    go : (b : Bool) → leb N 9 ≡ b → cond b (P N) 0 ≤ 511
+    go true e = omega (arith, pow-mono (leb-true N 9 e))
+    go false e = omega arith
+
+module _ (y : List ℤ) (c : Campaign) (m : Memory) where
+  -- after a start no day is open
+  closed : (k : ℕ) → Sampled y (m .recording) (answered k (λ _. phase.Stopped) phase.Between)
+  closed zero = between
+  closed (suc k) = stopped
+
+  start-closed : (N taps C : ℕ) → Sampled y (m .recording) (beganOutcome c N taps C (m .store) (m .sums) .0 .book .phase)
+  unfolding beganOutcome
+  start-closed N taps C =
+      outcome-cases {A = Applied × List ℤ × List ℤ} (logStartChecks N taps C) tt (λ n. (startedBy (record { answer = n; campaign = c }), m .store, m .sums))
+      (over startedBy (startOutcome c N taps C (m .store) (m .sums))) (λ o. Sampled y (m .recording) (o .0 .book .phase))
+      (λ n _ _. closed n) (λ _. closed (startOutcome c N taps C (m .store) (m .sums) .0 .answer))
+
+  sample-put : (d n : ℕ) (v : ℤ) → n < length (m .recording) → take n (m .recording) ≡ y
+      → let o = putSample d n v (m .recording) in (length (o .1) ≡ length (m .recording)) × Sampled (y ++ v ∷ []) (o .1) (o .0)
+  sample-put d n v h e =
+      rw (lt-ltb n (length (m .recording)) h)
+      (length-set (m .recording) n v, inside (ap (λ k. take k (set (m .recording) n v)) (add-one n) ∙ take-suc-set (m .recording) n v h ∙ ap (λ z. z ++ v ∷ []) e))
+
+  record-samples : {D : ℕ} (p : Phase) (i : Item) → Fits D p i → D ≤ length (m .recording) → Sampled y (m .recording) p
+      → let o = applied (record { phase = p; campaign = c }) i m in
+      (length (o .1 .recording) ≡ length (m .recording)) × Sampled (samplesOf y i) (o .1 .recording) (o .0 .book .phase)
+  unfolding applied
+  record-samples p i (starts {N} {taps} {C}) l s = (refl, start-closed N taps C)
+  record-samples p i opens l s = (refl, inside refl)
+  record-samples p i withdraws l s = (refl, between)
+  record-samples p i asks l s = (refl, between)
+  record-samples p i (samples {d} {n} {v} h) l (inside e) = sample-put d n v (omega arith) e
+  record-samples p i enters l s = (refl, between)
+
+-- ---- all records
+
+found-samples : (p : Place) (bytes : List ℕ) (y : List ℤ) (f : Found) → StandsAt p bytes true f → SampledAt y p → SampledAt (samplesAt y f) (turnOn p f .place)
+found-samples p bytes y f (whole {i = i} fit _ _ _) s =
+    let o = record-samples y (p .book .campaign) (p .memory) (p .book .phase) i fit (omega (arith, day-fits (p .book .campaign .order), s .room)) (s .day) in
+    record { room = o .0 ∙ s .room; day = o .1 }
+found-samples p bytes y f bad s = record { room = s .room; day = s .day }
+found-samples p bytes y f end s = record { room = s .room; day = s .day }
+
+going-samples : (s : Reached) (b : Bool) → SampledAt (s .samples) (s .place) → SampledAt (cond b (onward s) s .samples) (cond b (onward s) s .place)
+going-samples s false h = h
+going-samples s true h =
+    rw (turns (s .place) (s .left) true) (found-samples (s .place) (s .left) (s .samples) (standsAt (s .place) (s .left) true) (found-at (s .place) (s .left) true) h)
+
+pub samples-held : (n : ℕ) (input : List ℕ) → SampledAt (reached n input .samples) (reached n input .place)
+unfolding reached
+samples-held zero input = record { room = length-replicate {A = ℤ} 511 (pos 0); day = unbegun }
+samples-held (suc n) input = going-samples (reached n input) (reached n input .place .going) (samples-held n input)
