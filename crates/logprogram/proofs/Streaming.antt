@@ -14,8 +14,8 @@ use Rattle.log.proofs.Finding.{whole, short, bad, end}
 use Rattle.log.proofs.Standing.{settled}
 use Rattle.report.specs.Lines.{badBytes}
 use Rattle.logbook.specs.Book.{dayLength}
-use Rattle.logprogram.specs.Program.{Place, Turn, stopped, turnOn, standsAt, output, logOutput, firstPlace}
-use Rattle.logprogram.specs.Reads.{given, none, Midway, outset, next, passed, fed, Ran, begun, taken, more, mostTurns}
+use Rattle.logprogram.specs.Program.{Place, Turn, stopped, turnOn, standsAt, output, logOutput}
+use Rattle.logprogram.specs.Reads.{given, Midway, outset, next, passed, fed, Ran, begun, taken, more, mostTurns}
 use Rattle.logprogram.proofs.Turns.{StandsAt, found-at, turns, output-off, output-on, then}
 
 -- ---- the turns of given reads

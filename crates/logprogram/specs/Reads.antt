@@ -2,7 +2,7 @@
 use mathlib.Core.Path.{_≡_}
 use mathlib.Core.Bool.{Bool, true, false}
 use mathlib.Core.List.{List, [], _∷_, _++_}
-use Prim.Native.Nat.{ℕ, zero, suc, _^_}
+use Prim.Native.Nat.{ℕ, suc, _^_}
 use lib.ListN.{drop}
 use Rattle.logprogram.specs.Program.{Place, Turn, firstPlace, stopped, turn}
 

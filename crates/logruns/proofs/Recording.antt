@@ -2,11 +2,11 @@
 use mathlib.Core.Path.{_≡_, refl, ap, _∙_}
 use mathlib.Core.Bool.{Bool, true, false, cond}
 use mathlib.Core.List.{List, [], _∷_, _++_}
-use Prim.Native.Nat.{ℕ, zero, suc, _+_, _≤_, _<_}
+use Prim.Native.Nat.{ℕ, zero, suc, _≤_, _<_}
 use native.Mathlib.Numerals.{add-one}
 use native.Mathlib.Omega.{arith}
 use borrow.Author.Tests.{lt-ltb, leb-true}
-use lib.Dec.{ltb, leb}
+use lib.Dec.{leb}
 use lib.IntN.{ℤ, pos}
 use lib.ListN.{length, set, take, length-set, length-replicate}
 use lib.Pow.{pow-mono}
@@ -27,7 +27,7 @@ use Rattle.logprogram.specs.Program.{Place, turnOn, standsAt}
 use Rattle.logprogram.proofs.Turns.{StandsAt, found-at, turns}
 use Rattle.logruns.specs.Calls.{samplesOf, samplesAt, Reached, onward, reached}
 
--- y are the samples that came, and the recording's room is as it was lent
+-- y are the samples that came, where a day is open
 pub data Sampled (y recording : List ℤ) : Phase → Type 0 where
   unbegun : Sampled y recording phase.Unbegun
   between : Sampled y recording phase.Between

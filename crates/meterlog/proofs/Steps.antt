@@ -1,16 +1,16 @@
 -- A turn in the buffer is a turn on the bytes at hand, and one turn after another leads to the end. Assumes nothing.
 use mathlib.Core.Path.{_≡_, refl, sym, ap, subst, _∙_}
 use mathlib.Core.Bool.{Bool, true, false, cond, not}
-use mathlib.Core.Logic.{_⊎_, inl, inr}
+use mathlib.Core.Logic.{inl, inr}
 use mathlib.Core.List.{List, [], _++_}
-use Prim.Native.Nat.{ℕ, zero, suc, _+_, _-_, _≤_, _<_}
+use Prim.Native.Nat.{ℕ, suc, _+_, _-_, _≤_, _<_}
 use native.Mathlib.Omega.{arith}
 use lib.Dec.{T, eqb}
-use lib.IntN.{ℤ, pos}
+use lib.IntN.{pos}
 use lib.ListN.{length, drop}
 use lib.Signed.{ltZ}
 use Rattle.logbook.specs.Book.{Memory}
-use Rattle.logprogram.specs.Program.{Place, Turn, firstMemory, firstPlace, placeOf, turnOf}
+use Rattle.logprogram.specs.Program.{Turn, firstMemory, firstPlace, placeOf, turnOf}
 use Rattle.logprogram.specs.Reads.{Midway, next, passed, fed, halted, Ran, begun, mostTurns}
 use Rattle.logprogram.specs.Reads as runs
 use Rattle.logprogram.specs.declared.Bookmark.{Bookmark}
@@ -19,7 +19,7 @@ use Rattle.logprogram.proofs.Turns.{turn-bounded}
 use Rattle.meterlog.specs.Buffer.{hand, midway, provided, afterWrite, Refilled, Stepped, taken, more, unwritten, unread, Ended, whole, broken}
 use Rattle.meterlog.specs.declared.Progress.{Progress}
 use Rattle.meterlog.specs.declared.Failed.{Failed}
-use Rattle.meterlog.specs.declared.Failed.the-variants.{Nothing, Writing, Reading}
+use Rattle.meterlog.specs.declared.Failed.the-variants.{Nothing, Reading}
 use Rattle.meterlog.proofs.Behind.{none-is}
 
 -- ---- one turn
