@@ -1,4 +1,4 @@
--- A quoted text as bytes: each character by its code, which is ASCII's. Assumes nothing.
+-- A quoted text as a list of numbers: the code of each character, which up to 127 is ASCII's. Assumes nothing.
 use mathlib.Core.List.{List, [], _∷_}
 use Prim.Native.Nat.{ℕ}
 use Prim.Native.Char.{code}
