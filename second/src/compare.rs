@@ -1,51 +1,13 @@
 //! Runs another program on random logs and compares its output with the own answer.
 
 use crate::coverage::Coverage;
+use crate::feeding::Other;
 use crate::log::answer;
 use crate::make::log;
 use std::collections::BTreeMap;
+use std::fs;
 use std::io::{self, Write};
-use std::process::{Command, Stdio};
-use std::{fs, thread};
-
-pub struct Other<'a> {
-    pub program: &'a str,
-    pub wrapper: &'a [String],
-}
-
-impl Other<'_> {
-    fn command(&self) -> Command {
-        match self.wrapper {
-            [] => Command::new(self.program),
-            [first, rest @ ..] => {
-                let mut command = Command::new(first);
-                command.args(rest).arg(self.program);
-                command
-            }
-        }
-    }
-
-    /// The program's standard output and the way it ended.
-    fn answer(&self, log: &[u8]) -> io::Result<(Vec<u8>, String)> {
-        let mut child = self
-            .command()
-            .stdin(Stdio::piped())
-            .stdout(Stdio::piped())
-            .spawn()
-            .map_err(|fault| io::Error::other(format!("cannot run {}: {fault}", self.program)))?;
-        let mut to_child = child.stdin.take().expect("the child's input is a pipe");
-        let output = thread::scope(|scope| {
-            // The program may stop before it has read everything, so a failed write is no fault.
-            scope.spawn(move || drop(to_child.write_all(log)));
-            child.wait_with_output()
-        })?;
-        let ended = output
-            .status
-            .code()
-            .map_or("signal".to_string(), |code| code.to_string());
-        Ok((output.stdout, ended))
-    }
-}
+use std::process::ExitStatus;
 
 /// The first line in which two outputs differ, counted from 1, and both lines.
 fn first_difference(own: &[u8], other: &[u8]) -> Option<(usize, String, String)> {
@@ -70,6 +32,12 @@ fn save(number: u64, log: &[u8]) -> io::Result<()> {
     fs::write(format!("target/differs-{number:05}.log"), log)
 }
 
+fn ending(status: ExitStatus) -> String {
+    status
+        .code()
+        .map_or("signal".to_string(), |code| code.to_string())
+}
+
 /// Prints the differences and the coverage; gives the number of differences.
 pub fn compare(other: &Other, seed: u64, count: u64) -> io::Result<u64> {
     let mut out = io::stdout();
@@ -79,17 +47,24 @@ pub fn compare(other: &Other, seed: u64, count: u64) -> io::Result<u64> {
     for number in 0..count {
         let log = log(seed, number);
         let own = answer(&log);
-        let (text, ended) = other.answer(&log)?;
-        if let Some((line, ours, theirs)) = first_difference(own.text.as_bytes(), &text) {
-            writeln!(
-                out,
-                "log {number:05} seed {seed} line {line}: own {ours}, program {theirs}"
-            )?;
-            save(number, &log)?;
-            differences += 1;
+        let said = [
+            ("whole", other.whole(&log)?),
+            ("in pieces", other.in_pieces(&log)?),
+        ];
+        for (way, output) in said {
+            if let Some((line, ours, theirs)) =
+                first_difference(own.text.as_bytes(), &output.stdout)
+            {
+                writeln!(
+                    out,
+                    "log {number:05} seed {seed} {way} line {line}: own {ours}, program {theirs}"
+                )?;
+                save(number, &log)?;
+                differences += 1;
+            }
+            *endings.entry(ending(output.status)).or_default() += 1;
         }
         coverage.add(own.met);
-        *endings.entry(ended).or_default() += 1;
     }
     for line in coverage.lines() {
         writeln!(out, "{line}")?;
@@ -99,6 +74,9 @@ pub fn compare(other: &Other, seed: u64, count: u64) -> io::Result<u64> {
         .map(|(way, n)| format!("{way}={n}"))
         .collect();
     writeln!(out, "exit status (not compared): {}", endings.join(", "))?;
-    writeln!(out, "{count} logs, {differences} differences")?;
+    writeln!(
+        out,
+        "{count} logs, whole and in pieces of 1 to 7 bytes, {differences} differences"
+    )?;
     Ok(differences)
 }

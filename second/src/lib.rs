@@ -6,6 +6,7 @@ pub mod coverage;
 pub mod damage;
 pub mod door;
 pub mod entering;
+pub mod feeding;
 pub mod holding;
 pub mod log;
 pub mod make;

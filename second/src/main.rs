@@ -1,8 +1,9 @@
 //! The commands.
 
-use second::compare::{compare, Other};
+use second::compare::compare;
+use second::feeding::Other;
 use second::{door, log, make, numbers, samples, text, year};
-use std::io::{self, Read, Write};
+use std::io::{self, BufRead, Read, Write};
 use std::process::ExitCode;
 use std::{env, fs};
 
@@ -10,6 +11,7 @@ const USAGE: &str = "usage:
   second answer                                       log on standard input, its lines out
   second make SEED COUNT DIR                          random logs into DIR
   second compare PROGRAM SEED COUNT [WRAPPER...]      PROGRAM's lines against ours
+  second pieces PROGRAM [WRAPPER...]                  PROGRAM's lines on the log on standard input, fed in pieces
   second text                                         readable text in, log out
   second numbers                                      the numbers by direct formulas
   second door SEED COUNT                              random calls of the C door, by our own
@@ -41,6 +43,10 @@ fn run(words: &[String]) -> Result<ExitCode, String> {
             compare(&other, whole(seed)?, whole(count)?)
                 .map(|differences| ExitCode::from(u8::from(differences > 0)))
         }
+        ["pieces", program, ..] => feed_pieces(&Other {
+            program,
+            wrapper: &words[2..],
+        }),
         ["text"] => turn_text(),
         ["numbers"] => numbers::print(&mut io::stdout()).map(|()| ExitCode::SUCCESS),
         ["samples"] => samples::print(&mut io::stdout()).map(|()| ExitCode::SUCCESS),
@@ -61,10 +67,30 @@ fn whole(word: &str) -> Result<u64, String> {
         .map_err(|_| format!("`{word}` is not a whole number"))
 }
 
-fn answer() -> io::Result<ExitCode> {
+/// Standard input to its end, each read with a whole buffer's room, so that no piece is cut.
+fn input() -> io::Result<Vec<u8>> {
+    let mut from = io::stdin().lock();
     let mut input = Vec::new();
-    io::stdin().read_to_end(&mut input)?;
+    loop {
+        let piece = from.fill_buf()?;
+        if piece.is_empty() {
+            return Ok(input);
+        }
+        input.extend_from_slice(piece);
+        let length = piece.len();
+        from.consume(length);
+    }
+}
+
+fn answer() -> io::Result<ExitCode> {
+    let input = input()?;
     io::stdout().write_all(log::answer(&input).text.as_bytes())?;
+    Ok(ExitCode::SUCCESS)
+}
+
+fn feed_pieces(other: &Other) -> io::Result<ExitCode> {
+    let input = input()?;
+    io::stdout().write_all(&other.in_pieces(&input)?.stdout)?;
     Ok(ExitCode::SUCCESS)
 }
 

@@ -1,2 +1,3 @@
--- The laws of text in a buffer.
+-- The laws of text in a buffer, and how the lines are spelt.
 pub mod Writing
+pub mod Words

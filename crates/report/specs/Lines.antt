@@ -3,10 +3,12 @@ use mathlib.Core.Path.{_≡_}
 use mathlib.Core.List.{List, [], _∷_, _++_}
 use mathlib.Core.Bool.{cond}
 use Prim.Native.Nat.{ℕ, zero, suc, _+_, _/_, _%_}
+use Prim.Native.Char.{code}
 use lib.Dec.{ltb}
 use lib.IntN.{ℤ, pos, natAbs}
 use lib.ListN.{length, take}
 use lib.Signed.{ltZ}
+use Rattle.sums.specs.Text.{ascii}
 use Rattle.campaign.specs.Calls.{verdictNumber}
 use Rattle.campaign.specs.declared.Entry.{Entry}
 use Rattle.campaign.specs.declared.Verdict.{Verdict}
@@ -20,7 +22,7 @@ use Rattle.report.specs.declared.Line.the-variants as line
 -- in decimal, with no zeros in front, in at most k digits
 unfoldable pub digits : ℕ → ℕ → List ℕ
 digits zero n = []
-digits (suc k) n = cond (ltb n 10) ((48 + n) ∷ []) (digits k (n / 10) ++ (48 + n % 10) ∷ [])
+digits (suc k) n = cond (ltb n 10) ((code "0" + n) ∷ []) (digits k (n / 10) ++ (code "0" + n % 10) ∷ [])
 
 -- a number of 64 bits has at most 20
 abbrev pub decimal : ℕ → List ℕ
@@ -28,42 +30,40 @@ decimal n = digits 20 n
 
 -- a negative one after a minus sign
 abbrev pub decimalZ : ℤ → List ℕ
-decimalZ z = cond (ltZ z (pos 0)) (45 ∷ decimal (natAbs z)) (decimal (natAbs z))
+decimalZ z = cond (ltZ z (pos 0)) (ascii "-" ++ decimal (natAbs z)) (decimal (natAbs z))
 
 -- after a space
 abbrev pub spaced : ℕ → List ℕ
-spaced n = 32 ∷ decimal n
+spaced n = ascii " " ++ decimal n
 
 -- ---- the lines
 
 abbrev pub lineEnd : List ℕ
-lineEnd = 10 ∷ []
+lineEnd = ascii "\n"
 
 -- `start answer`
 abbrev pub startLine : ℕ → List ℕ
-startLine answer = (115 ∷ 116 ∷ 97 ∷ 114 ∷ 116 ∷ []) ++ spaced answer ++ lineEnd
+startLine answer = ascii "start" ++ spaced answer ++ lineEnd
 
 -- kept, overload, dead, or - when refused
 abbrev pub verdictWord : Verdict → List ℕ
-verdictWord (verdict.Kept s) = 32 ∷ 107 ∷ 101 ∷ 112 ∷ 116 ∷ []
-verdictWord (verdict.Overloaded p) = 32 ∷ 111 ∷ 118 ∷ 101 ∷ 114 ∷ 108 ∷ 111 ∷ 97 ∷ 100 ∷ []
-verdictWord verdict.Dead = 32 ∷ 100 ∷ 101 ∷ 97 ∷ 100 ∷ []
-verdictWord (verdict.Refused n) = 32 ∷ 45 ∷ []
+verdictWord (verdict.Kept s) = ascii " kept"
+verdictWord (verdict.Overloaded p) = ascii " overload"
+verdictWord verdict.Dead = ascii " dead"
+verdictWord (verdict.Refused n) = ascii " -"
 
 -- `enter day answer verdict`
 abbrev pub enterLine : Entry → List ℕ
-enterLine e =
-    (101 ∷ 110 ∷ 116 ∷ 101 ∷ 114 ∷ []) ++ spaced (e .day) ++ spaced (verdictNumber (e .verdict)) ++ verdictWord (e .verdict) ++ lineEnd
+enterLine e = ascii "enter" ++ spaced (e .day) ++ spaced (verdictNumber (e .verdict)) ++ verdictWord (e .verdict) ++ lineEnd
 
 -- `withdraw day answer`
 abbrev pub withdrawLine : ℕ → ℕ → List ℕ
-withdrawLine d answer = (119 ∷ 105 ∷ 116 ∷ 104 ∷ 100 ∷ 114 ∷ 97 ∷ 119 ∷ []) ++ spaced d ++ spaced answer ++ lineEnd
+withdrawLine d answer = ascii "withdraw" ++ spaced d ++ spaced answer ++ lineEnd
 
 -- `response answer standing overloaded dead withdrawn`
 abbrev pub responseLine : ℕ → Tally → List ℕ
 responseLine answer t =
-    (114 ∷ 101 ∷ 115 ∷ 112 ∷ 111 ∷ 110 ∷ 115 ∷ 101 ∷ [])
-    ++ spaced answer ++ spaced (t .standing) ++ spaced (t .overloaded) ++ spaced (t .dead) ++ spaced (t .withdrawn) ++ lineEnd
+    ascii "response" ++ spaced answer ++ spaced (t .standing) ++ spaced (t .overloaded) ++ spaced (t .dead) ++ spaced (t .withdrawn) ++ lineEnd
 
 -- the line that a record makes
 abbrev pub lineBytes : Line → List ℕ
@@ -75,11 +75,11 @@ lineBytes (line.Answered answer t) = responseLine answer t
 
 -- `k r mean`
 abbrev pub rowBytes : ℕ → ℤ → ℤ → List ℕ
-rowBytes k r mean = decimal k ++ (32 ∷ []) ++ decimalZ r ++ (32 ∷ []) ++ decimalZ mean ++ lineEnd
+rowBytes k r mean = decimal k ++ ascii " " ++ decimalZ r ++ ascii " " ++ decimalZ mean ++ lineEnd
 
 -- `bad` and the byte offset
 abbrev pub badBytes : ℕ → List ℕ
-badBytes offset = (98 ∷ 97 ∷ 100 ∷ []) ++ spaced offset ++ lineEnd
+badBytes offset = ascii "bad" ++ spaced offset ++ lineEnd
 
 -- ---- written to a buffer from a place on, up to the place that is answered
 

@@ -1,10 +1,7 @@
 -- The nearest quotient of two natural numbers, from the quotient and the remainder. Assumes nothing.
-use mathlib.Core.Path.{_≡_, refl, sym}
+use mathlib.Core.Path.{_≡_, sym}
 use Prim.Native.Nat.{ℕ, suc, _+_, _-_, _*_, _/_, _%_, _≤_, _<_}
-use native.Mathlib.Nat.{mul-left-comm, mul-le-mul-left, add-mul, div-eq-of-lt-le, div-add-mod', mod-lt, div-le-self, div-mul-le-self, lt-mul-div-succ, mul-comm, lt-of-mul-lt-mul-right}
-use mathlib.Core.Bool.{Bool, true, false}
-use lib.Dec.{ltb}
-use borrow.Author.Tests.{ltb-true, ltb-false}
+use native.Mathlib.Nat.{mul-left-comm, mul-le-mul-left, add-mul, div-eq-of-lt-le, div-add-mod', mod-lt, div-mul-le-self, lt-mul-div-succ, mul-comm, lt-of-mul-lt-mul-right}
 use native.Mathlib.Omega.{arith}
 use lib.IntN.{ℤ, pos, negsuc, natAbs}
 use Rattle.sums.proofs.Bound.{natAbs-neg}
@@ -42,14 +39,6 @@ module _ (a d : ℕ) (p : 0 < d) where
 
   pub near-room : d - a % d ≤ a % d → a / d + 1 ≤ a
   near-room h = room a d (a / d) (a % d) (div-add-mod' a d) (mod-lt a p) (omega (arith, mod-lt a p))
-
-  by-test : (b : Bool) → ltb (a % d) (d - a % d) ≡ b → nearest a d ≤ a
-  by-test true e = rw (← near-down (ltb-true _ _ e)) (div-le-self a d)
-  by-test false e = rw (← near-up (ltb-false _ _ e)) (near-room (ltb-false _ _ e))
-
-  -- the nearest quotient is no more than a
-  pub near-le : nearest a d ≤ a
-  near-le = by-test (ltb (a % d) (d - a % d)) refl
 
   -- it is the nearest: no further from a / d than a half, and at a half the upper one
   pub near-nearest : (nearest a d * (2 * d) ≤ 2 * a + d) × (2 * a + d < (nearest a d + 1) * (2 * d))

@@ -72,15 +72,7 @@ fn with_sign(z: i64, n: u64) -> i64
     if z < 0 { -b } else { b }
 }
 
-// r / d to the nearest, halves away from zero. The least i64 alone is left out.
-pub fn mean(r: i64, d: u64) -> i64
-    requires { ⌜ (0 < d) × (natAbs r < 2 ^ 63) ⌝ }
-    ensures { λ m. ⌜ m ≡ rounded r d ⌝ }
-{
-    with_sign(r, near(size(r), d))
-}
-
-// The same where it is a sample, by the shift and the product that are handed in.
+// r / d to the nearest, halves away from zero, where it is a sample: by the shift and the product that are handed in.
 fn mean_as(r: i64, d: u64, shift: u32, m: u64) -> i64
     requires { ⌜ (0 < d) × (sampleOut (rounded r d) ≡ false) × ((m ≡ 0 → ⊥) → Split d shift m) ⌝ }
     ensures { λ x. ⌜ x ≡ rounded r d ⌝ }

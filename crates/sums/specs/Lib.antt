@@ -2,3 +2,4 @@
 pub mod Sum
 pub mod Lists
 pub mod Refusals
+pub mod Text

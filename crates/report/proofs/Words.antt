@@ -1,0 +1,45 @@
+-- Document 01, "Lines": a line of each kind, letter by letter as the paper spells it, so that a word misspelt in the specs and in the code alike
+-- is refused here. Assumes nothing.
+use mathlib.Core.Path.{_≡_, refl}
+use mathlib.Core.List.{[]}
+use Prim.Native.Nat.{ℕ}
+use lib.IntN.{negsuc}
+use Rattle.sums.specs.Text.{ascii}
+use Rattle.campaign.specs.declared.Verdict.{Verdict}
+use Rattle.campaign.specs.declared.Verdict.the-variants as verdict
+use Rattle.trend.specs.declared.Tally.{Tally}
+use Rattle.report.specs.declared.Line.the-variants as line
+use Rattle.report.specs.Lines.{digits, lineBytes, rowBytes, badBytes}
+
+abbrev tally : ℕ → ℕ → ℕ → ℕ → ℕ → Tally
+tally u s o d w = record { unseen = u; standing = s; overloaded = o; dead = d; withdrawn = w }
+
+pub record Spelt : Type 0 where
+  pub silent : lineBytes line.Silent ≡ []
+  pub started : lineBytes (line.Started 0) ≡ ascii "start 0\n"
+  pub kept : lineBytes (line.Entered (record { day = 1; verdict = verdict.Kept 0 })) ≡ ascii "enter 1 0 kept\n"
+  pub overloaded : lineBytes (line.Entered (record { day = 2; verdict = verdict.Overloaded 3 })) ≡ ascii "enter 2 0 overload\n"
+  pub dead : lineBytes (line.Entered (record { day = 2; verdict = verdict.Dead })) ≡ ascii "enter 2 0 dead\n"
+  pub refused : lineBytes (line.Entered (record { day = 367; verdict = verdict.Refused 10 })) ≡ ascii "enter 367 10 -\n"
+  pub withdrawn : lineBytes (line.Withdrawn 1 0) ≡ ascii "withdraw 1 0\n"
+  pub nothing : lineBytes (line.Answered 14 (tally 364 0 0 1 1)) ≡ ascii "response 14 0 0 1 1\n"
+  pub answered : lineBytes (line.Answered 0 (tally 356 4 3 2 1)) ≡ ascii "response 0 4 3 2 1\n"
+  pub row : rowBytes 2 (negsuc 7) (negsuc 0) ≡ ascii "2 -8 -1\n"
+  pub bad : badBytes 6 ≡ ascii "bad 6\n"
+
+pub lines-spelt : Spelt
+unfolding digits
+lines-spelt =
+    record {
+      silent = refl;
+      started = refl;
+      kept = refl;
+      overloaded = refl;
+      dead = refl;
+      refused = refl;
+      withdrawn = refl;
+      nothing = refl;
+      answered = refl;
+      row = refl;
+      bad = refl;
+    }
