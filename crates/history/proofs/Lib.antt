@@ -8,4 +8,5 @@ pub mod EveryRun
 pub mod Undone
 pub mod AsIf
 pub mod Numbers
+pub mod Order
 pub mod Determined
