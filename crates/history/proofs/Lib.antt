@@ -9,4 +9,5 @@ pub mod Undone
 pub mod AsIf
 pub mod Numbers
 pub mod Order
+pub mod ExactLevels
 pub mod Determined
