@@ -1,22 +1,28 @@
 #!/usr/bin/env python3
-"""Holds include/meter.h to the source: each exported function of crates/meter is declared, with the parameters that it has, and no other is."""
+"""Holds include/meter.h to the source: each exported function of crates/meter is declared, with the parameters that it has, by type and by name, and no other is.
+
+With a file as its argument it holds that file to the source instead."""
 import pathlib
 import re
 import sys
 
 root = pathlib.Path(__file__).resolve().parent.parent
 numbers = {"u8": "uint8_t", "i8": "int8_t", "u16": "uint16_t", "u32": "uint32_t", "i32": "int32_t", "i64": "int64_t", "usize": "size_t", "f64": "double"}
+# C has the record's slot count and a new player's numbers under longer names; a player's own count is lent, so it is not the first of these.
+longer = {"count: u32": "slot_count", "o: &mut u32": "player_order", "t: &mut u32": "player_taps"}
 
 
 def crossing(parameter):
-    """The C types of a Rattle parameter: a slice is a pointer and a length."""
-    kind = parameter.split(":", 1)[1].strip()
+    """The C parameters of a Rattle one: a slice `x` is a pointer `x` and a length `x_len`."""
+    parameter = " ".join(parameter.split())
+    name, kind = parameter.split(": ")
+    name = longer.get(parameter, name)
     found = re.fullmatch(r"(&mut |&)?(\[)?(\w+)\]?", kind)
     lent, slice_of, of = found[1], found[2], numbers[found[3]]
     if lent is None:
-        return [of]
-    pointer = ("const " if lent == "&" else "") + of + " *"
-    return [pointer, "size_t"] if slice_of else [pointer]
+        return [f"{of} {name}"]
+    pointer = ("const " if lent == "&" else "") + f"{of} *{name}"
+    return [pointer, f"size_t {name}_len"] if slice_of else [pointer]
 
 
 source = {}
@@ -25,9 +31,10 @@ for path in sorted((root / "crates/meter/src").glob("*.rt")):
         source[name] = [numbers[answer]] + [c for p in parameters.split(",") if p.strip() for c in crossing(p)]
 
 header = {}
-text = re.sub(r"/\*.*?\*/", "", (root / "include/meter.h").read_text(), flags=re.S)
+declarations = pathlib.Path(sys.argv[1]) if len(sys.argv) > 1 else root / "include/meter.h"
+text = re.sub(r"/\*.*?\*/", "", declarations.read_text(), flags=re.S)
 for answer, name, parameters in re.findall(r"(\w+) (meter_\w+)\((.*?)\);", text, re.S):
-    header[name] = [answer] + [re.sub(r"\w+$", "", " ".join(p.split())).replace("* ", "*").strip() for p in parameters.split(",")]
+    header[name] = [answer] + [" ".join(p.split()) for p in parameters.split(",")]
 
 faults = [name for name in sorted(source.keys() | header.keys()) if source.get(name) != header.get(name)]
 for name in faults:

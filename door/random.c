@@ -160,17 +160,134 @@ static void predict_case(void) {
     free(out);
 }
 
-/* A campaign: its start, and a run of calls on what that left, some on a damaged record. */
+/* ---- a campaign: its start, and a run of calls on what that left, some on a damaged record ---- */
+
+struct held {
+    uint32_t order, taps, count;
+    uint8_t *days;
+    uint16_t *slots;
+    int32_t *store;
+    int64_t *sums;
+    size_t days_len, slots_len, store_len, sums_len;
+};
+#define RECORD c->order, c->taps, c->count, c->days, c->days_len, c->slots, c->slots_len, c->store, c->store_len, c->sums, c->sums_len
+#define MEMORY d8(c->days, c->days_len), d16(c->slots, c->slots_len), d32(c->store, c->store_len), d64(c->sums, c->sums_len)
+#define MEMORY_PRINTED "%" PRId64 " %" PRId64 " %" PRId64 " %" PRId64 "\n"
+
+/* Where damage strikes, and what stood there. */
+struct damage {
+    size_t day, slot, sample, sum;
+    uint8_t state_was;
+    uint16_t slot_was;
+    int32_t sample_was;
+    int64_t sum_was;
+    uint32_t count_was;
+};
+
+/* The store's place for this one of the sums in the first used slot from `slot` on, going round; past the store where there is none. */
+static size_t used_place(const struct held *c, size_t slot, size_t sum) {
+    for (size_t i = 0; i < c->slots_len; i++) {
+        size_t s = (slot + i) % c->slots_len;
+        if (c->slots[s] != 0)
+            return s * period_of(c->order) + sum;
+    }
+    return c->store_len;
+}
+
+/* One call in six meets damage. The last kind moves a stored sample to a rail and its sum with it, so that only the sample itself tells. */
+static struct damage damaged(struct held *c) {
+    uint64_t kind = below(6) == 0 ? below(6) : 9;
+    size_t day = below(c->days_len), slot = below(c->slots_len), sample = below(c->store_len), sum = below(c->sums_len);
+    int32_t rail = below(2) == 0 ? 8388607 : -8388608;
+    if (kind == 5 && used_place(c, slot, sum) < c->store_len)
+        sample = used_place(c, slot, sum);
+    struct damage d = {day, slot, sample, sum, c->days[day], c->slots[slot], c->store[sample], c->sums[sum], c->count};
+    switch (kind) {
+    case 0: c->days[day]++; break;
+    case 1: c->slots[slot] ^= 1; break;
+    case 2: c->store[sample]++; break;
+    case 3: c->sums[sum]--; break;
+    case 4: c->count++; break;
+    case 5:
+        c->store[sample] = rail;
+        c->sums[sum] += (int64_t)rail - d.sample_was;
+        break;
+    }
+    return d;
+}
+
+static void mend(struct held *c, const struct damage *d) {
+    c->days[d->day] = d->state_was;
+    c->slots[d->slot] = d->slot_was;
+    c->store[d->sample] = d->sample_was;
+    c->sums[d->sum] = d->sum_was;
+    c->count = d->count_was;
+}
+
 static uint32_t any_day(void) {
     static const uint32_t odd[4] = {0, 367, 366, 400};
     return below(20) == 0 ? odd[below(4)] : (uint32_t)(1 + below(6));
 }
 
+static uint32_t enter_call(struct held *c) {
+    uint32_t day = any_day(), state = 9;
+    size_t p = period_of(c->order), n = below(15) == 0 ? p - 1 + 2 * below(2) : p, value = 9;
+    FILLED(int32_t, y, n);
+    draw_samples(y, n);
+    uint32_t answer = meter_enter(RECORD, day, y, n, &state, &value);
+    printf("%" PRIu64 " enter %u %u %zu " MEMORY_PRINTED, number, answer, state, value, MEMORY);
+    free(y);
+    return answer;
+}
+
+static uint32_t withdraw_call(struct held *c) {
+    uint32_t answer = meter_withdraw(RECORD, any_day());
+    printf("%" PRIu64 " withdraw %u " MEMORY_PRINTED, number, answer, MEMORY);
+    return answer;
+}
+
+static uint32_t counts_call(struct held *c) {
+    uint32_t u = 9, s = 9, o = 9, d = 9, w = 9;
+    uint32_t answer = meter_counts(RECORD, &u, &s, &o, &d, &w);
+    printf("%" PRIu64 " counts %u %u %u %u %u %u\n", number, answer, u, s, o, d, w);
+    return answer;
+}
+
+/* A response, or a summary, with room drawn alike for both. */
+static uint32_t asked_call(struct held *c, int summed) {
+    size_t p = period_of(c->order), a = near(p), m = near(p), w = near(p + 1), t = near(2 * p);
+    FILLED(int64_t, r, a);
+    FILLED(int32_t, mean, m);
+    FILLED(int64_t, room, w);
+    FILLED(uint16_t, tags, t);
+    uint32_t answer, stands = 9;
+    double levels[3] = {9, 9, 9};
+    if (summed) {
+        uint64_t bits[3];
+        answer = meter_summary(RECORD, room, w, tags, t, &stands, &levels[0], &levels[1], &levels[2]);
+        memcpy(bits, levels, sizeof bits);
+        printf("%" PRIu64 " summary %u %u %" PRIu64 " %" PRIu64 " %" PRIu64 " %" PRId64 " %" PRId64 "\n", number, answer,
+               stands, bits[0], bits[1], bits[2], d64(room, w), d16(tags, t));
+    } else {
+        answer = meter_response(RECORD, r, a, mean, m, room, w, tags, t);
+        printf("%" PRIu64 " response %u %" PRId64 " %" PRId64 " %" PRId64 " %" PRId64 "\n", number, answer,
+               d64(r, a), d32(mean, m), d64(room, w), d16(tags, t));
+    }
+    free(r);
+    free(mean);
+    free(room);
+    free(tags);
+    return answer;
+}
+
+static uint32_t campaign_call(struct held *c, uint64_t what) {
+    return what < 5 ? enter_call(c) : what < 7 ? withdraw_call(c) : what == 7 ? counts_call(c) : asked_call(c, what == 9);
+}
+
 static void campaign_case(void) {
-    uint32_t order = any_order(), taps = any_taps(order), answer;
     static const uint32_t odd_counts[3] = {0, 65, 64};
+    uint32_t order = any_order(), taps = any_taps(order), count = (uint32_t)(1 + below(order >= 12 ? 3 : 8));
     size_t p = period_of(order);
-    uint32_t count = (uint32_t)(1 + below(order >= 12 ? 3 : 8));
     if (below(15) == 0 && order < 12)
         count = odd_counts[below(3)];
     size_t store_len = near((count == 0 ? 1 : count) * p), sums_len = near(p);
@@ -179,70 +296,14 @@ static void campaign_case(void) {
     FILLED(uint16_t, slots, slots_len);
     FILLED(int32_t, store, store_len);
     FILLED(int64_t, sums, sums_len);
-#define RECORD order, taps, count, days, days_len, slots, slots_len, store, store_len, sums, sums_len
-#define MEMORY d8(days, days_len), d16(slots, slots_len), d32(store, store_len), d64(sums, sums_len)
-    answer = meter_start(RECORD);
-    printf("%" PRIu64 " start %u %" PRId64 " %" PRId64 " %" PRId64 " %" PRId64 "\n", number, answer, MEMORY);
+    struct held campaign = {order, taps, count, days, slots, store, sums, days_len, slots_len, store_len, sums_len}, *c = &campaign;
+    uint32_t answer = meter_start(RECORD);
+    printf("%" PRIu64 " start %u " MEMORY_PRINTED, number, answer, MEMORY);
     for (uint64_t steps = order >= 12 ? 2 + below(3) : 3 + below(12); steps > 0; steps--) {
-        uint64_t what = below(10), damage = below(6) == 0 ? below(5) : 9, place = below(60);
-        uint8_t day_was = days[place];
-        uint16_t slot_was = slots[place];
-        int32_t sample_was = store[place % store_len];
-        int64_t sum_was = sums[place % sums_len];
-        uint32_t count_was = count;
-        switch (damage) {
-        case 0: days[place]++; break;
-        case 1: slots[place] ^= 1; break;
-        case 2: store[place % store_len]++; break;
-        case 3: sums[place % sums_len]--; break;
-        case 4: count++; break;
-        }
-        if (what < 5) {
-            uint32_t day = any_day(), state = 9;
-            size_t n = below(15) == 0 ? p - 1 + 2 * below(2) : p, value = 9;
-            FILLED(int32_t, y, n);
-            draw_samples(y, n);
-            answer = meter_enter(RECORD, day, y, n, &state, &value);
-            printf("%" PRIu64 " enter %u %u %zu %" PRId64 " %" PRId64 " %" PRId64 " %" PRId64 "\n", number, answer, state, value, MEMORY);
-            free(y);
-        } else if (what < 7) {
-            answer = meter_withdraw(RECORD, any_day());
-            printf("%" PRIu64 " withdraw %u %" PRId64 " %" PRId64 " %" PRId64 " %" PRId64 "\n", number, answer, MEMORY);
-        } else if (what == 7) {
-            uint32_t u = 9, s = 9, o = 9, d = 9, w = 9;
-            answer = meter_counts(RECORD, &u, &s, &o, &d, &w);
-            printf("%" PRIu64 " counts %u %u %u %u %u %u\n", number, answer, u, s, o, d, w);
-        } else {
-            size_t a = near(p), m = near(p), b = near(p + 1), c = near(2 * p);
-            FILLED(int64_t, r, a);
-            FILLED(int32_t, mean, m);
-            FILLED(int64_t, room, b);
-            FILLED(uint16_t, tags, c);
-            if (what == 8) {
-                answer = meter_response(RECORD, r, a, mean, m, room, b, tags, c);
-                printf("%" PRIu64 " response %u %" PRId64 " %" PRId64 " %" PRId64 " %" PRId64 "\n", number, answer,
-                       d64(r, a), d32(mean, m), d64(room, b), d16(tags, c));
-            } else {
-                uint32_t stands = 9;
-                double levels[3] = {9, 9, 9};
-                uint64_t bits[3];
-                answer = meter_summary(RECORD, room, b, tags, c, &stands, &levels[0], &levels[1], &levels[2]);
-                memcpy(bits, levels, sizeof bits);
-                printf("%" PRIu64 " summary %u %u %" PRIu64 " %" PRIu64 " %" PRIu64 " %" PRId64 " %" PRId64 "\n", number, answer,
-                       stands, bits[0], bits[1], bits[2], d64(room, b), d16(tags, c));
-            }
-            free(r);
-            free(mean);
-            free(room);
-            free(tags);
-        }
-        if (answer == 15) {
-            days[place] = day_was;
-            slots[place] = slot_was;
-            store[place % store_len] = sample_was;
-            sums[place % sums_len] = sum_was;
-            count = count_was;
-        }
+        uint64_t what = below(10);
+        struct damage d = damaged(c);
+        if (campaign_call(c, what) == 15)
+            mend(c, &d);
     }
     free(days);
     free(slots);

@@ -1,12 +1,12 @@
 //! Random calls of every function that the C door has, each with the line that it prints. `door/random.c` draws the same calls in
 //! the same order and makes them through the door.
 
-use crate::campaign::{self, Campaign, DayState, Lent, DAYS, MOST_SLOTS};
+use crate::campaign::{self, Campaign, DayState, Lent, DAYS, FREE, MOST_SLOTS};
 use crate::player::Player;
 use crate::reading::Summary;
 use crate::refusal::{number, Refusal, DOES_NOT_HOLD_TOGETHER};
 use crate::register::{check_taps, default_taps, sequence};
-use crate::response::{one_recording, predict};
+use crate::response::{one_recording, predict, HIGHEST, LOWEST};
 use crate::rng::Rng;
 use crate::room::Room;
 use crate::year_memory::digest_of;
@@ -343,8 +343,123 @@ fn response_line(held: &Held, rng: &mut Rng, summed: bool) -> (Refusal, String) 
     (answer, line)
 }
 
+/// Where damage strikes, and what stood there.
+struct Damage {
+    day: usize,
+    slot: usize,
+    sample: usize,
+    sum: usize,
+    was: (u8, u16, i32, i64, u32),
+}
+
+impl Held {
+    /// The store's place for this one of the sums in the first used slot from `slot` on, going round.
+    fn used_place(&self, slot: usize, sum: usize) -> Option<usize> {
+        let n = self.slots.len();
+        let used = (0..n)
+            .map(|i| (slot + i) % n)
+            .find(|&s| self.slots[s] != FREE)?;
+        let place = used * period_of(self.order) + sum;
+        (place < self.lent.store.len()).then_some(place)
+    }
+
+    /// One call in six meets damage. The last kind moves a stored sample to a rail and its sum with it, so that only the sample itself tells.
+    fn damage(&mut self, rng: &mut Rng) -> Damage {
+        let kind = if rng.once_in(6) { rng.below(6) } else { 9 };
+        let day = rng.below(self.days.len());
+        let slot = rng.below(self.slots.len());
+        let mut sample = rng.below(self.lent.store.len());
+        let sum = rng.below(self.lent.sums.len());
+        let rail = rng.pick(&[HIGHEST, LOWEST]);
+        if kind == 5 {
+            sample = self.used_place(slot, sum).unwrap_or(sample);
+        }
+        let Lent { store, sums } = &mut self.lent;
+        let was = (
+            self.days[day],
+            self.slots[slot],
+            store[sample],
+            sums[sum],
+            self.count,
+        );
+        match kind {
+            0 => self.days[day] += 1,
+            1 => self.slots[slot] ^= 1,
+            2 => store[sample] += 1,
+            3 => sums[sum] -= 1,
+            4 => self.count += 1,
+            5 => {
+                sums[sum] += i64::from(rail) - i64::from(store[sample]);
+                store[sample] = rail;
+            }
+            _ => {}
+        }
+        Damage {
+            day,
+            slot,
+            sample,
+            sum,
+            was,
+        }
+    }
+
+    fn mend(&mut self, damage: &Damage) {
+        let was = damage.was;
+        self.days[damage.day] = was.0;
+        self.slots[damage.slot] = was.1;
+        self.lent.store[damage.sample] = was.2;
+        self.lent.sums[damage.sum] = was.3;
+        self.count = was.4;
+    }
+}
+
+fn enter_line(held: &mut Held, rng: &mut Rng) -> (Refusal, String) {
+    let day = any_day(rng);
+    let p = period_of(held.order);
+    let n = if rng.once_in(15) {
+        p - 1 + 2 * rng.below(2)
+    } else {
+        p
+    };
+    let y = samples(rng, n);
+    let (answer, state, value) = held.enter(day, &y);
+    let line = format!("enter {answer} {state} {value} {}", held.memory());
+    (answer, line)
+}
+
+fn withdraw_line(held: &mut Held, rng: &mut Rng) -> (Refusal, String) {
+    let answer = held.withdraw(any_day(rng));
+    (answer, format!("withdraw {answer} {}", held.memory()))
+}
+
 /// A campaign: its start, and a run of calls on what that left, some on a damaged record.
 fn campaign_case(rng: &mut Rng) -> Vec<String> {
+    let mut held = any_campaign(rng);
+    let answer = held.start();
+    let mut lines = vec![format!("start {answer} {}", held.memory())];
+    let steps = if held.order >= 12 {
+        2 + rng.below(3)
+    } else {
+        3 + rng.below(12)
+    };
+    for _ in 0..steps {
+        let what = rng.below(10);
+        let damage = held.damage(rng);
+        let (answer, line) = match what {
+            0..=4 => enter_line(&mut held, rng),
+            5 | 6 => withdraw_line(&mut held, rng),
+            7 => counts_line(&held),
+            _ => response_line(&held, rng, what == 9),
+        };
+        lines.push(line);
+        if answer == DOES_NOT_HOLD_TOGETHER {
+            held.mend(&damage);
+        }
+    }
+    lines
+}
+
+fn any_campaign(rng: &mut Rng) -> Held {
     let order = any_order(rng);
     let taps = any_taps(rng, order);
     let p = period_of(order);
@@ -364,71 +479,12 @@ fn campaign_case(rng: &mut Rng) -> Vec<String> {
     } else {
         64 + rng.below(3)
     };
-    let mut held = Held {
+    Held {
         order,
         taps,
         count,
         days: filled(days),
         slots: filled(slots),
         lent: Lent { store, sums },
-    };
-    let answer = held.start();
-    let mut lines = vec![format!("start {answer} {}", held.memory())];
-    let steps = if order >= 12 {
-        2 + rng.below(3)
-    } else {
-        3 + rng.below(12)
-    };
-    for _ in 0..steps {
-        let what = rng.below(10);
-        let damage = if rng.once_in(6) { rng.below(5) } else { 9 };
-        let place = rng.below(60);
-        let (in_store, in_sums) = (place % held.lent.store.len(), place % held.lent.sums.len());
-        let was = (
-            held.days[place],
-            held.slots[place],
-            held.lent.store[in_store],
-            held.lent.sums[in_sums],
-            held.count,
-        );
-        match damage {
-            0 => held.days[place] += 1,
-            1 => held.slots[place] ^= 1,
-            2 => held.lent.store[in_store] += 1,
-            3 => held.lent.sums[in_sums] -= 1,
-            4 => held.count += 1,
-            _ => {}
-        }
-        let (answer, line) = match what {
-            0..=4 => {
-                let day = any_day(rng);
-                let n = if rng.once_in(15) {
-                    p - 1 + 2 * rng.below(2)
-                } else {
-                    p
-                };
-                let y = samples(rng, n);
-                let (answer, state, value) = held.enter(day, &y);
-                (
-                    answer,
-                    format!("enter {answer} {state} {value} {}", held.memory()),
-                )
-            }
-            5 | 6 => {
-                let answer = held.withdraw(any_day(rng));
-                (answer, format!("withdraw {answer} {}", held.memory()))
-            }
-            7 => counts_line(&held),
-            _ => response_line(&held, rng, what == 9),
-        };
-        lines.push(line);
-        if answer == DOES_NOT_HOLD_TOGETHER {
-            held.days[place] = was.0;
-            held.slots[place] = was.1;
-            held.lent.store[in_store] = was.2;
-            held.lent.sums[in_sums] = was.3;
-            held.count = was.4;
-        }
     }
-    lines
 }

@@ -12,6 +12,7 @@ pub mod log;
 pub mod make;
 pub mod met;
 pub mod numbers;
+pub mod order;
 pub mod player;
 pub mod reading;
 pub mod record;

@@ -8,4 +8,6 @@ pub mod EveryRun
 pub mod Undone
 pub mod AsIf
 pub mod Numbers
+pub mod Order
+pub mod ExactLevels
 pub mod Determined

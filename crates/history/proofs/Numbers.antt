@@ -1,6 +1,7 @@
 -- Document 01, "Numbers to hold it to" and the log example, computed from the outcome functions: order 3, taps 3. Assumes nothing.
 use mathlib.Core.Path.{_≡_, refl}
 use mathlib.Core.List.{List, [], _∷_}
+use mathlib.Core.Bool.{Bool, true, false}
 use Prim.Native.Nat.{ℕ}
 use lib.Count.{ones}
 use lib.IntN.{ℤ, pos, negsuc}
@@ -11,7 +12,7 @@ use Rattle.register.specs.Register.{dot, step, window, bit, wave, period}
 use Rattle.register.specs.Calls.{tapsAnswer}
 use Rattle.response.specs.Response as formula
 use Rattle.rounding.specs.Rounding.{nearest, rounded}
-use Rattle.records.specs.Record.{together, fresh}
+use Rattle.records.specs.Record.{standing, together, fresh, filed}
 use Rattle.campaign.specs.Calls.{enterOutcome, withdrawOutcome}
 use Rattle.trend.specs.Calls.{responseOutcome}
 use Rattle.history.specs.Run.{World, enter, withdraw, response, after, answer, run}
@@ -68,6 +69,28 @@ entries =
       no-slot = refl;
       dead-all-used = refl;
       loud-all-used = refl;
+    }
+
+-- ---- a sample that stands
+
+-- whether a record with day 1 in its only slot, the day's first sample z and the sums agreeing, holds together
+abbrev holds-with : ℤ → Bool
+holds-with z = together (filed (fresh 3 3 1) 1 standing 0 1) (with z) (with z)
+
+pub record InASlot : Type 0 where
+  pub under-the-upper-rail : holds-with (pos 8388606) ≡ true
+  pub at-the-upper-rail : holds-with (pos 8388607) ≡ false
+  pub over-the-lower-rail : holds-with (negsuc 8388606) ≡ true
+  pub at-the-lower-rail : holds-with (negsuc 8388607) ≡ false
+
+pub in-a-slot : InASlot
+unfolding together tapsAnswer period seek every many total sum window step dot ones
+in-a-slot =
+    record {
+      under-the-upper-rail = refl;
+      at-the-upper-rail = refl;
+      over-the-lower-rail = refl;
+      at-the-lower-rail = refl;
     }
 
 -- ---- the log example

@@ -43,6 +43,10 @@ pub or-right-true : (a b : Bool) → b ≡ true → a || b ≡ true
 or-right-true true b e = refl
 or-right-true false b e = e
 
+-- the rails are not inside them, their neighbours are
+pub rails-outside : (inside (pos 8388607) ≡ false) × (inside (pos 8388606) ≡ true) × (inside (negsuc 8388607) ≡ false) × (inside (negsuc 8388606) ≡ true)
+rails-outside = (refl, refl, refl, refl)
+
 -- a number inside the rails
 pub inside-size : (z : ℤ) → inside z ≡ true → natAbs z ≤ 8388607
 inside-size z h =

@@ -10,4 +10,5 @@ pub mod FastRoute
 pub mod Transformed
 pub mod Clearing
 pub mod Paper
+pub mod Order
 pub mod Lengths

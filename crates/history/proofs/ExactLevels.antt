@@ -1,0 +1,71 @@
+-- Document 01, "Summary": where the days standing are a power of two in number, a summary with room enough answers with levels, and each of the
+-- three that a summary carries is exactly its r over (P+1)·n. Of any record that holds together, which is every one that a run hands back
+-- (EveryRun, `holds`). Assumes nothing.
+use mathlib.Core.Path.{_≡_, sym, ap, subst, _∙_}
+use mathlib.Core.Bool.{Bool, true, false, cond, not}
+use mathlib.Core.List.{List}
+use Prim.Native.Nat.{ℕ, _+_, _*_, _^_, _≤_}
+use native.Mathlib.Omega.{arith}
+use borrow.Author.Tests.{le-ltb, ne-eqb}
+use lib.Dec.{eqb, ltb}
+use lib.Ieee.{Float}
+use lib.Ieee.Exact.{HasValue}
+use lib.IntN.{ℤ, natAbs}
+use lib.ListN.{length}
+use lib.Pow.{pow-pos}
+use Rattle.sums.specs.Refusals.{answered}
+use Rattle.sums.proofs.First.{accepts}
+use Rattle.register.specs.Register.{P}
+use Rattle.response.specs.Calls.{workShort, clearedWide, clearedTags}
+use Rattle.records.specs.Record.{standing, daysIn, together}
+use Rattle.trend.specs.Calls.{worked, divisor, extremesOf, levelsOf, summaryChecks, summaryOutcome}
+use Rattle.records.specs.declared.Campaign.{Campaign}
+use Rattle.trend.specs.declared.Levels.{Levels}
+use Rattle.trend.specs.declared.Summary.{Summary}
+use Rattle.trend.specs.declared.Summary.the-variants.{Nothing, Measured, Refused}
+use Rattle.records.proofs.Holding.{holds-together}
+use Rattle.trend.proofs.Leveling.{isNegative, levels-exact}
+
+-- a double that is r over (P+1)·n: read from its bits as f·2^e it has r's sign, and f·(P+1)·n·2^e is |r|, the power of two put on r's side where e is
+-- below 0
+abbrev pub Reads : Campaign → ℤ → Float → Type 0
+Reads c r x = HasValue x (isNegative r) (natAbs r) (divisor c)
+
+pub record Exact (c : Campaign) (sums : List ℤ) (l : Levels) : Type 0 where
+  pub highest : Reads c (extremesOf (P (c .order)) (worked c sums) .highest) (l .highest)
+  pub lowest : Reads c (extremesOf (P (c .order)) (worked c sums) .lowest) (l .lowest)
+  pub peak : Reads c (extremesOf (P (c .order)) (worked c sums) .peak) (l .peak)
+
+-- the levels of a record, and what a summary hands back with them
+abbrev levels : Campaign → List ℤ → Levels
+levels c sums = levelsOf (P (c .order)) (worked c sums) (divisor c)
+
+abbrev measured : Campaign → List ℤ → List ℤ → List ℕ → Summary × List ℤ × List ℕ
+measured c sums room tags = (Measured (levels c sums), clearedWide (P (c .order) + 1) room, clearedTags (2 * P (c .order)) tags)
+
+module _ (c : Campaign) (store sums room : List ℤ) (tags : List ℕ) (h : together c store sums ≡ true) where
+  -- a summary carries no other levels than these
+  carried : (l : Levels) → summaryOutcome c store sums room tags .0 ≡ Measured l → levels c sums ≡ l
+  unfolding summaryOutcome
+  carried l = rw h (by-checks (workShort (P (c .order)) (length room) (length tags)) (eqb (daysIn c standing) 0))
+    where
+      by-checks : (short none : Bool)
+          → answered (cond short 6 0) (λ n. (Refused n, room, tags)) (cond none (Nothing, room, tags) (measured c sums room tags)) .0 ≡ Measured l
+          → levels c sums ≡ l
+      by-checks true none e = let z : _≡_ {A = ℕ} 0 1 = cc in absurd (omega arith)
+      by-checks false true e = let z : _≡_ {A = ℕ} 0 1 = cc in absurd (omega arith)
+      by-checks false false e = cc
+
+  module _ (m : ℕ) (e : daysIn c standing ≡ 2 ^ m) where
+    pub levels-carried : (l : Levels) → summaryOutcome c store sums room tags .0 ≡ Measured l → Exact c sums l
+    levels-carried l q =
+        let level-at = levels-exact c store sums (holds-together c store sums .0 h) m e in
+        subst (Exact c sums) (carried l q) (record { highest = level-at _; lowest = level-at _; peak = level-at _ })
+
+    pub carries-levels : P (c .order) + 1 ≤ length room → 2 * P (c .order) ≤ length tags → summaryOutcome c store sums room tags .0 ≡ Measured (levels c sums)
+    unfolding summaryOutcome
+    carries-levels long wide =
+        rw (
+          accepts (summaryChecks c store sums room tags) (ap not h, (simp (le-ltb (length room) (P (c .order) + 1) long, le-ltb (length tags) (2 * P (c .order)) wide), tt)),
+          ne-eqb (daysIn c standing) 0 (λ z. omega (arith, pow-pos m)),
+        )

@@ -1,0 +1,181 @@
+-- Document 01, "Order of checks", call by call: the checks' numbers as they stand, and for each two neighbours an input to which both apply, with
+-- its answer. Order 2, so that P is 3, and one slot. Default taps and counts have one check. Assumes nothing.
+use mathlib.Core.Path.{_≡_, refl}
+use mathlib.Core.List.{List, [], _∷_}
+use Prim.Native.Nat.{ℕ}
+use lib.Count.{ones}
+use lib.IntN.{ℤ, pos}
+use lib.ListN.{replicate}
+use Rattle.sums.specs.Sum.{sum, total}
+use Rattle.sums.specs.Lists.{seek, some, every, many, table, put, putAt}
+use Rattle.register.specs.Register.{dot, step, window, period}
+use Rattle.register.specs.Calls.{tapsChecks, tapsAnswer, sequenceChecks, sequenceOutcome, shapeChecks}
+use Rattle.player.specs.Calls.{stepChecks, newOutcome, stepOutcome, playOutcome, newNumber, tickNumber}
+use Rattle.response.proofs.Order.{numbers}
+use Rattle.response.proofs.Order as response
+use Rattle.records.specs.Record.{standing, together, fresh, filed}
+use Rattle.campaign.specs.Calls.{startChecks, startOutcome, enterChecks, enterOutcome, withdrawChecks, withdrawOutcome}
+use Rattle.trend.specs.Calls.{responseChecks, responseOutcome, summaryChecks, summaryOutcome, summaryNumber}
+use Rattle.player.specs.declared.Player.{Player}
+use Rattle.records.specs.declared.Campaign.{Campaign}
+use Rattle.campaign.specs.declared.Verdict.{Verdict}
+use Rattle.campaign.specs.declared.Verdict.the-variants.{Overloaded, Dead, Refused}
+
+-- ---- the calls that take order and taps
+
+abbrev told : ℕ → ℕ → ℕ → ℕ
+told N taps out = sequenceOutcome N taps (replicate out 9) .0
+
+abbrev new : ℕ → ℕ → ℕ
+new N taps = newNumber (newOutcome N taps)
+
+abbrev player : ℕ → ℕ → ℕ → Player
+player N taps window = record { order = N; taps = taps; window = window; count = 0 }
+
+-- a step and a block of one sign answer alike
+abbrev stepped : ℕ → ℕ → ℕ → ℕ × ℕ
+stepped N taps window = (tickNumber (stepOutcome (player N taps window) .tick), playOutcome (player N taps window) (pos 9 ∷ []) .0 .answer)
+
+pub record Registers : Type 0 where
+  pub taps : (N taps : ℕ) → numbers (tapsChecks N taps) ≡ 1 ∷ 2 ∷ 3 ∷ 4 ∷ []
+  pub taps-1-2 : tapsAnswer 1 2 ≡ 1
+  pub taps-2-3 : tapsAnswer 2 4 ≡ 2
+  pub taps-3-4 : tapsAnswer 2 2 ≡ 3
+  pub sequence : (N taps : ℕ) (out : List ℕ) → numbers (sequenceChecks N taps out) ≡ 1 ∷ 2 ∷ 3 ∷ 4 ∷ 6 ∷ []
+  pub sequence-1-2 : told 1 2 3 ≡ 1
+  pub sequence-2-3 : told 2 4 3 ≡ 2
+  pub sequence-3-4 : told 2 2 3 ≡ 3
+  pub sequence-4-6 : told 2 1 2 ≡ 4
+  pub new-player : (N taps : ℕ) → numbers (shapeChecks N taps) ≡ 1 ∷ 2 ∷ 3 ∷ []
+  pub new-1-2 : new 1 2 ≡ 1
+  pub new-2-3 : new 2 4 ≡ 2
+  pub step : (p : Player) → numbers (stepChecks p) ≡ 1 ∷ 2 ∷ 3 ∷ 16 ∷ []
+  pub step-1-2 : stepped 1 2 1 ≡ (1, 1)
+  pub step-2-3 : stepped 2 4 1 ≡ (2, 2)
+  pub step-3-16 : (stepped 2 2 0 ≡ (3, 3)) × (stepped 2 2 4 ≡ (3, 3))
+
+pub registers : Registers
+unfolding tapsAnswer sequenceOutcome newOutcome stepOutcome playOutcome period seek window step dot ones
+registers =
+    record {
+      taps = λ N taps. refl;
+      taps-1-2 = refl;
+      taps-2-3 = refl;
+      taps-3-4 = refl;
+      sequence = λ N taps out. refl;
+      sequence-1-2 = refl;
+      sequence-2-3 = refl;
+      sequence-3-4 = refl;
+      sequence-4-6 = refl;
+      new-player = λ N taps. refl;
+      new-1-2 = refl;
+      new-2-3 = refl;
+      step = λ p. refl;
+      step-1-2 = refl;
+      step-2-3 = refl;
+      step-3-16 = (refl, refl);
+    }
+
+-- ---- a campaign
+
+abbrev started : ℕ → ℕ → ℕ → ℕ → ℕ → ℕ
+started N taps C store sums = startOutcome (fresh 2 3 1) N taps C (replicate store (pos 9)) (replicate sums (pos 9)) .0 .answer
+
+-- zeros; and a recording that may stand
+abbrev zeros : List ℤ
+zeros = replicate 3 (pos 0)
+
+abbrev quiet : List ℤ
+quiet = pos 1 ∷ pos 0 ∷ pos 0 ∷ []
+
+abbrev with : ℤ → List ℤ
+with z = z ∷ pos 0 ∷ pos 0 ∷ []
+
+-- an entry to a record of no days; to one that does not hold together, its sums being none; and to one whose only slot day 1 has
+abbrev entry-to : Campaign → List ℤ → List ℤ → ℕ → List ℤ → Verdict
+entry-to c store sums d y = enterOutcome c store sums d y .0 .entry .verdict
+
+abbrev empty : ℕ → List ℤ → Verdict
+empty = entry-to (fresh 2 3 1) zeros zeros
+
+abbrev apart : ℕ → List ℤ → Verdict
+apart = entry-to (fresh 2 3 1) zeros quiet
+
+abbrev full : ℕ → List ℤ → Verdict
+full = entry-to (filed (fresh 2 3 1) 1 standing 0 1) quiet quiet
+
+-- the other calls on the first two, told by their sums
+abbrev withdrew : List ℤ → ℕ → ℕ
+withdrew sums d = withdrawOutcome (fresh 2 3 1) zeros sums d .0 .answer
+
+abbrev responded : List ℤ → ℕ → ℕ → ℕ → ℕ → ℕ
+responded sums r mean room tags =
+    responseOutcome (fresh 2 3 1) zeros sums (replicate r (pos 9)) (replicate mean (pos 9)) (replicate room (pos 9)) (replicate tags 9) .0
+
+abbrev summed : List ℤ → ℕ → ℕ → ℕ
+summed sums room tags = summaryNumber (summaryOutcome (fresh 2 3 1) zeros sums (replicate room (pos 9)) (replicate tags 9) .0)
+
+pub record Campaigns : Type 0 where
+  pub start : (N taps C : ℕ) (store sums : List ℤ) → numbers (startChecks N taps C store sums) ≡ 1 ∷ 2 ∷ 3 ∷ 4 ∷ 9 ∷ 6 ∷ []
+  pub start-1-2 : started 1 2 1 3 3 ≡ 1
+  pub start-2-3 : started 2 4 1 3 3 ≡ 2
+  pub start-3-4 : started 2 2 1 3 3 ≡ 3
+  pub start-4-9 : started 2 1 0 3 3 ≡ 4
+  pub start-9-6 : (started 2 3 65 3 3 ≡ 9) × (started 2 3 0 3 2 ≡ 9)
+  pub enter : (c : Campaign) (store sums : List ℤ) (d : ℕ) (y : List ℤ) → numbers (enterChecks c store sums d y) ≡ 15 ∷ 10 ∷ 5 ∷ 7 ∷ 11 ∷ []
+  pub enter-15-10 : apart 0 quiet ≡ Refused 15
+  pub enter-10-5 : empty 0 (pos 1 ∷ []) ≡ Refused 10
+  pub enter-5-7 : empty 2 (pos 8388608 ∷ []) ≡ Refused 5
+  pub enter-7-11 : full 1 (with (pos 8388608)) ≡ Refused 7
+  pub enter-11-verdict : (full 1 (with (pos 8388607)) ≡ Refused 11) × (full 1 zeros ≡ Refused 11)
+  pub overloaded-dead : empty 2 (replicate 3 (pos 8388607)) ≡ Overloaded 0
+  pub enter-verdict-12 : (full 2 (with (pos 8388607)) ≡ Overloaded 0) × (full 2 zeros ≡ Dead) × (full 2 quiet ≡ Refused 12)
+  pub withdraw : (c : Campaign) (store sums : List ℤ) (d : ℕ) → numbers (withdrawChecks c store sums d) ≡ 15 ∷ 10 ∷ 13 ∷ []
+  pub withdraw-15-10 : withdrew quiet 0 ≡ 15
+  pub withdraw-10-13 : withdrew zeros 0 ≡ 10
+  pub response : (c : Campaign) (store sums r mean room : List ℤ) (tags : List ℕ)
+      → numbers (responseChecks c store sums r mean room tags) ≡ 15 ∷ 6 ∷ 14 ∷ []
+  pub response-15-6 : responded quiet 2 3 4 6 ≡ 15
+  pub response-6-14 : (responded zeros 2 3 4 6 ≡ 6) × (responded zeros 3 2 4 6 ≡ 6) × (responded zeros 3 3 3 6 ≡ 6) × (responded zeros 3 3 4 5 ≡ 6)
+  pub summary : (c : Campaign) (store sums room : List ℤ) (tags : List ℕ) → numbers (summaryChecks c store sums room tags) ≡ 15 ∷ 6 ∷ []
+  pub summary-15-6 : summed quiet 3 6 ≡ 15
+  pub summary-6-nothing : (summed zeros 3 6 ≡ 6) × (summed zeros 4 5 ≡ 6) × (summed zeros 4 6 ≡ 0)
+
+pub campaigns : Campaigns
+unfolding startOutcome enterOutcome withdrawOutcome responseOutcome summaryOutcome together tapsAnswer period seek some every many total sum table put putAt window step dot ones
+campaigns =
+    record {
+      start = λ N taps C store sums. refl;
+      start-1-2 = refl;
+      start-2-3 = refl;
+      start-3-4 = refl;
+      start-4-9 = refl;
+      start-9-6 = (refl, refl);
+      enter = λ c store sums d y. refl;
+      enter-15-10 = refl;
+      enter-10-5 = refl;
+      enter-5-7 = refl;
+      enter-7-11 = refl;
+      enter-11-verdict = (refl, refl);
+      overloaded-dead = refl;
+      enter-verdict-12 = (refl, refl, refl);
+      withdraw = λ c store sums d. refl;
+      withdraw-15-10 = refl;
+      withdraw-10-13 = refl;
+      response = λ c store sums r mean room tags. refl;
+      response-15-6 = refl;
+      response-6-14 = (refl, refl, refl, refl);
+      summary = λ c store sums room tags. refl;
+      summary-15-6 = refl;
+      summary-6-nothing = (refl, refl, refl);
+    }
+
+-- ---- every call
+
+pub record OrderOfChecks : Type 0 where
+  pub registers : Registers
+  pub recordings : response.Order
+  pub campaigns : Campaigns
+
+pub order-of-checks : OrderOfChecks
+order-of-checks = record { registers = registers; recordings = response.order; campaigns = campaigns }

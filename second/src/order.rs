@@ -1,0 +1,221 @@
+//! Document 01's "Order of checks": for each two checks that stand side by side in a call's list, an input to which both apply,
+//! so that the answer tells which comes first. `door/order.c` makes the same calls through the C door.
+
+use crate::campaign::{start, Campaign, Lent};
+use crate::entering::Verdict;
+use crate::player::Player;
+use crate::reading::Summary;
+use crate::refusal::{number, Refusal};
+use crate::register::{check_taps, sequence};
+use crate::response::{one_recording, predict};
+use crate::room::Room;
+use std::io::{self, Write};
+
+/// Order 2, taps 3: P is 3. A campaign has one slot.
+const P: usize = 3;
+const ROOM: usize = P + 1;
+const TAGS: usize = 2 * P;
+
+/// Prints a line for each case.
+pub fn print(out: &mut impl Write) -> io::Result<()> {
+    let mut lines = registers();
+    lines.extend(recordings());
+    lines.extend(enters());
+    lines.extend(withdraws());
+    lines.extend(asks(true, "15 before 6", "15 before 6"));
+    lines.extend(asks(false, "6 before 14", "6 before nothing stands"));
+    for line in lines {
+        writeln!(out, "{line}")?;
+    }
+    Ok(())
+}
+
+fn line(call: &str, checks: &str, answer: Refusal) -> String {
+    format!("{call}: {checks}: {answer}")
+}
+
+// ---- the calls that take order and taps
+
+fn told(order: u32, taps: u32, n: usize) -> Refusal {
+    number(&sequence(order, taps, &mut vec![0; n]))
+}
+
+/// One recording of `n` samples, with an output, wide numbers and tags of these lengths.
+fn heard(order: u32, taps: u32, first: i32, n: usize, lengths: [usize; 3]) -> Refusal {
+    let y = &[first, 0, 0][..n];
+    let [out, wide, tags] = lengths;
+    let room = &mut Room {
+        wide: &mut vec![0; wide],
+        tags: &mut vec![0; tags],
+    };
+    number(&one_recording(order, taps, y, &mut vec![0; out], room))
+}
+
+fn predicted(order: u32, taps: u32, first: i32, n: usize, out: usize) -> Refusal {
+    let h = &[first, 0, 0][..n];
+    number(&predict(order, taps, h, &mut vec![0; out]))
+}
+
+fn started(order: u32, taps: u32, count: u32, store: usize, sums: usize) -> Refusal {
+    let (store, sums) = (&mut vec![0; store], &mut vec![0; sums]);
+    number(&start(order, taps, count, store, sums))
+}
+
+/// A block is refused for the same causes as a step.
+fn players(order: u32, taps: u32, window: u32, checks: &str) -> [String; 2] {
+    let mut player = Player {
+        order,
+        taps,
+        window,
+        count: 0,
+    };
+    let answer = number(&player.step());
+    ["step", "play"].map(|call| line(call, checks, answer))
+}
+
+/// Orders 1 and 17 have taps that are not below 2^N as well.
+fn registers() -> Vec<String> {
+    let shapes = [
+        (1, 2, "1 before 2"),
+        (17, 131_072, "1 before 2"),
+        (2, 4, "2 before 3"),
+        (2, 2, "3 before 4"),
+    ];
+    let mut lines = vec![];
+    for (order, taps, checks) in shapes {
+        let mut add = |call, answer| lines.push(line(call, checks, answer));
+        add("taps", number(&check_taps(order, taps)));
+        add("sequence", told(order, taps, P));
+        add("recording", heard(order, taps, 1, P, [P, ROOM, TAGS]));
+        add("predict", predicted(order, taps, 1, P, P));
+        add("start", started(order, taps, 1, P, P));
+        if checks != "3 before 4" {
+            add("new player", number(&Player::new(order, taps)));
+            lines.extend(players(order, taps, 1, checks));
+        }
+    }
+    lines.extend(players(2, 2, 0, "3 before 16"));
+    lines.extend(players(2, 2, 4, "3 before 16"));
+    lines.push(line("sequence", "4 before 6", told(2, 1, P - 1)));
+    lines
+}
+
+/// A response of 8388608, 0, 0 predicts 8388608 at the last place.
+fn recordings() -> Vec<String> {
+    let too_short = [
+        [P - 1, ROOM, TAGS],
+        [P, ROOM - 1, TAGS],
+        [P, ROOM, TAGS - 1],
+    ];
+    let mut lines = vec![];
+    let mut add = |call, checks, answer| lines.push(line(call, checks, answer));
+    add(
+        "recording",
+        "4 before 5",
+        heard(2, 1, 1, P - 1, [P, ROOM, TAGS]),
+    );
+    for lengths in too_short {
+        add("recording", "5 before 6", heard(2, 3, 1, P - 1, lengths));
+    }
+    for lengths in too_short {
+        add(
+            "recording",
+            "6 before 7",
+            heard(2, 3, 8_388_608, P, lengths),
+        );
+    }
+    add("predict", "4 before 5", predicted(2, 1, 1, P - 1, P));
+    add("predict", "5 before 6", predicted(2, 3, 1, P - 1, P - 1));
+    add(
+        "predict",
+        "6 before 7",
+        predicted(2, 3, 8_388_608, P, P - 1),
+    );
+    add("predict", "7 before 8", predicted(2, 3, 8_388_608, P, P));
+    add("start", "4 before 9", started(2, 1, 0, P, P));
+    add("start", "9 before 6", started(2, 3, 65, 64 * P, P));
+    add("start", "9 before 6", started(2, 3, 0, P, P - 1));
+    lines
+}
+
+// ---- a campaign
+
+/// A start; day 1 stands where asked, which uses the only slot; a damaged record has a sum that is none.
+fn begun(standing: bool, damaged: bool) -> (Campaign, Lent) {
+    let mut lent = Lent {
+        store: vec![0; P],
+        sums: vec![0; P],
+    };
+    let mut campaign = start(2, 3, 1, &mut lent.store, &mut lent.sums).expect("it is accepted");
+    if standing {
+        campaign.enter(&mut lent, 1, &[1, 0, 0]);
+    }
+    lent.sums[0] += i64::from(damaged);
+    (campaign, lent)
+}
+
+/// The answer, and the state and value that the verdict gives, 9 and 9 where it gives none.
+fn enter(checks: &str, standing: bool, damaged: bool, day: u16, y: &[i32]) -> String {
+    let (mut campaign, mut lent) = begun(standing, damaged);
+    let (answer, state, value) = match campaign.enter(&mut lent, day, y).verdict {
+        Verdict::Kept { slot } => (0, 1, slot),
+        Verdict::Overloaded { place } => (0, 2, place),
+        Verdict::Dead => (0, 3, 0),
+        Verdict::Refused(refusal) => (refusal, 9, 9),
+    };
+    format!("enter: {checks}: {answer} {state} {value}")
+}
+
+fn enters() -> [String; 10] {
+    let (loud, beyond) = (8_388_607, 8_388_608);
+    [
+        enter("15 before 10", false, true, 0, &[1, 0, 0]),
+        enter("10 before 5", false, false, 0, &[1, 0]),
+        enter("5 before 7", false, false, 2, &[beyond, 0]),
+        enter("7 before 11", true, false, 1, &[beyond, 0, 0]),
+        enter("11 before the verdict", true, false, 1, &[loud, 0, 0]),
+        enter("11 before the verdict", true, false, 1, &[5; P]),
+        enter("11 before 12", true, false, 1, &[1, 0, 0]),
+        enter("overloaded before dead", false, false, 2, &[loud; P]),
+        enter("the verdict before 12", true, false, 2, &[loud, 0, 0]),
+        enter("the verdict before 12", true, false, 2, &[5; P]),
+    ]
+}
+
+fn withdraws() -> [String; 2] {
+    [("15 before 10", true), ("10 before 13", false)].map(|(checks, damaged)| {
+        let (mut campaign, mut lent) = begun(false, damaged);
+        line("withdraw", checks, number(&campaign.withdraw(&mut lent, 0)))
+    })
+}
+
+/// Each of the lent lengths is one too short in its turn; a summary has no outputs but the room.
+fn asks(damaged: bool, response_checks: &str, summary_checks: &str) -> Vec<String> {
+    let (campaign, lent) = begun(false, damaged);
+    let too_short = [
+        [P - 1, P, ROOM, TAGS],
+        [P, P - 1, ROOM, TAGS],
+        [P, P, ROOM - 1, TAGS],
+        [P, P, ROOM, TAGS - 1],
+    ];
+    let response = |[r, mean, wide, tags]: [usize; 4]| {
+        let room = &mut Room {
+            wide: &mut vec![0; wide],
+            tags: &mut vec![0; tags],
+        };
+        number(&campaign.response(&lent, &mut vec![0; r], &mut vec![0; mean], room))
+    };
+    let summary = |[_, _, wide, tags]: [usize; 4]| {
+        let room = &mut Room {
+            wide: &mut vec![0; wide],
+            tags: &mut vec![0; tags],
+        };
+        match campaign.summary(&lent, room) {
+            Summary::Refused(refusal) => refusal,
+            _ => 0,
+        }
+    };
+    let responses = too_short.map(|lengths| line("response", response_checks, response(lengths)));
+    let summaries = [2, 3].map(|i| line("summary", summary_checks, summary(too_short[i])));
+    responses.into_iter().chain(summaries).collect()
+}
