@@ -3,7 +3,7 @@
 use mathlib.Core.Path.{_≡_, refl, sym, ap, subst, _∙_}
 use mathlib.Core.Bool.{Bool, true, false, _||_, or-true}
 use mathlib.Core.List.{List, [], _∷_, _++_}
-use Prim.Native.Nat.{ℕ, zero, suc, _*_}
+use Prim.Native.Nat.{ℕ, zero, suc, _*_, _≤_}
 use native.Mathlib.Omega.{arith}
 use borrow.Author.Tests.{lt-ltb}
 use lib.Dec.{T, ltb}
@@ -33,6 +33,13 @@ no-memory N taps C z =
     ap (λ b. ltb 0 (C * P N) || b) (lt-ltb 0 (P N) (omega (arith, pow-lt s))) ∙ or-true (ltb 0 (C * P N))
 
 module _ (N taps C : ℕ) (days slots : List ℕ) (store sums : List ℤ) where
+  -- what the door hands back, refused and accepted
+  abbrev back : ℕ → ℕ × List ℕ × List ℕ × List ℤ × List ℤ
+  back n = (n, days, slots, store, sums)
+
+  abbrev made : ℕ × List ℕ × List ℕ × List ℤ × List ℤ
+  made = (0, put (fresh N taps C .days) days, put (fresh N taps C .table) slots, clearedWide (C * P N) store, clearedWide (P N) sums)
+
   -- the last two checks of a start, by what the last test says
   abbrev rest : Bool → List (ℕ × Bool)
   rest short = (9, slotsOut C) ∷ (6, short) ∷ []
@@ -51,23 +58,32 @@ module _ (N taps C : ℕ) (days slots : List ℕ) (store sums : List ℤ) where
           refused-first (tapsChecks N taps) (rest (ltb 0 (C * P N) || ltb 0 (P N))) (λ z. omega (arith, sym e ∙ z))
           ∙ sym (refused-first (tapsChecks N taps) (rest true) (λ z. omega (arith, sym e ∙ z)))
 
-  -- a refusal is answered by no 0
-  pub short-some : tablesShort days slots ≡ true → first (startDoorChecks N taps C days slots store sums) ≡ 0 → ⊥
-  short-some h z =
+  -- past the checks both tables are long
+  checked-long : first (startDoorChecks N taps C days slots store sums) ≡ 0 → tablesShort days slots ≡ false
+  checked-long z =
       let p = passes (startDoorChecks N taps C days slots store sums) tt z in
-      let wide = or-false (tablesShort days slots) (ltb (length store) (C * P N) || ltb (length sums) (P N)) (p .1 .1 .1 .1 .1 .0) .0 in
-      subst T (sym h ∙ wide) tt
+      or-false (tablesShort days slots) (ltb (length store) (C * P N) || ltb (length sums) (P N)) (p .1 .1 .1 .1 .1 .0) .0
+
+  pub short-some : tablesShort days slots ≡ true → first (startDoorChecks N taps C days slots store sums) ≡ 0 → ⊥
+  short-some h z = subst T (sym h ∙ checked-long z) tt
+
+  pub started-long : startDoor N taps C days slots store sums .0 ≡ 0 → (366 ≤ length days) × (64 ≤ length slots)
+  unfolding startDoor
+  started-long z = long days slots (checked-long (by-answer (first (startDoorChecks N taps C days slots store sums)) z))
+    where
+      by-answer : (n : ℕ) → answered n back made .0 ≡ 0 → n ≡ 0
+      by-answer zero z = refl
+      by-answer (suc n) z = z
+
+  -- with long tables the checks are the call's own
+  pub long-checks : tablesShort days slots ≡ false → first (startDoorChecks N taps C days slots store sums) ≡ first (startChecks N taps C store sums)
+  long-checks h = ap (λ b. first (tapsChecks N taps ++ rest (b || (ltb (length store) (C * P N) || ltb (length sums) (P N))))) h
 
   pub start-opened : tablesShort days slots ≡ false → startDoor N taps C days slots store sums ≡ startedOut days slots (startOutcome (recordOf N taps C days slots) N taps C store sums)
   unfolding startDoor startOutcome
-  start-opened h =
-      ap (λ b. answered (first (tapsChecks N taps ++ rest (b || (ltb (length store) (C * P N) || ltb (length sums) (P N))))) (λ n. (n, days, slots, store, sums)) made) h
-      ∙ by-answer (first (startChecks N taps C store sums))
+  start-opened h = ap (λ n. answered n back made) (long-checks h) ∙ by-answer (first (startChecks N taps C store sums))
     where
-      made : ℕ × List ℕ × List ℕ × List ℤ × List ℤ
-      made = (0, put (fresh N taps C .days) days, put (fresh N taps C .table) slots, clearedWide (C * P N) store, clearedWide (P N) sums)
-
-      by-answer : (n : ℕ) → answered n (λ n. (n, days, slots, store, sums)) made
+      by-answer : (n : ℕ) → answered n back made
           ≡ startedOut days slots (answered n (λ n. (record { answer = n; campaign = recordOf N taps C days slots }, store, sums)) (record { answer = 0; campaign = fresh N taps C }, clearedWide (C * P N) store, clearedWide (P N) sums))
       by-answer zero = refl
       by-answer (suc n) = sym (put-backs days slots (long days slots h) (λ d t. (suc n, d, t, store, sums)))
