@@ -42,6 +42,11 @@ module _ {A : Type 0} (checks : List (ℕ × Bool)) (number : A → ℕ) (back :
       go zero e = refl
       go (suc n) e = absurd (omega (arith, told (suc n)))
 
+-- in either of two cases
+pub either-0 : {A : Type 0} (number : A → ℕ) (b : Bool) (x y : A) → number x ≡ 0 → number y ≡ 0 → number (cond b x y) ≡ 0
+either-0 number true x y e g = e
+either-0 number false x y e g = g
+
 -- ---- an entry
 
 module _ {A : Type 0} (number : A → ℕ) (back : ℕ → A) (o p k : A) (told : (n : ℕ) → number (back n) ≡ n)

@@ -45,8 +45,8 @@ use Rattle.history.proofs.UnderWay.{from-start}
 use Rattle.history.proofs.EveryRun as every-run
 use Rattle.history.proofs.AsIf as as-if
 use Rattle.demands.specs.Buffers.{KeepsTail}
-use Rattle.demands.proofs.Checking.{answers-first, refused-same, entry-answers-first, entry-refused-same, refused-leaves}
-use Rattle.demands.proofs.Tails.{same, written, tail-kept, tail-either, enter-tails, withdraw-tails}
+use Rattle.demands.proofs.Checking.{answers-first, refused-same, either-0, entry-answers-first, entry-refused-same, refused-leaves}
+use Rattle.demands.proofs.Tails.{sequence-tail, recording-tails, prediction-tail, start-tails, enter-tails, withdraw-tails, response-tails, summary-tails}
 use Rattle.demands.proofs.Measuring.{sequence-at, response-at, response-small, prediction-at}
 
 -- ---- 1. "Every public call ends, on all inputs, with an answer. It refuses for the causes listed in document 01, in the order given there, and for
@@ -123,7 +123,7 @@ pub record Tails : Type 0 where
   pub summary : (c : Campaign) (store sums room : List ℤ) (tags : List ℕ) → let o = summaryOutcome c store sums room tags in
       KeepsTail (P (c .order) + 1) room (o .1) × KeepsTail (2 * P (c .order)) tags (o .2)
 
-checked : {A : Type 0} (order : List ℕ) (checks : List (ℕ × Bool)) (number : A → ℕ) (back : ℕ → A) (accepted : A)
+pub checked : {A : Type 0} (order : List ℕ) (checks : List (ℕ × Bool)) (number : A → ℕ) (back : ℕ → A) (accepted : A)
     → numbers checks ≡ order → ((n : ℕ) → number (back n) ≡ n) → number accepted ≡ 0 → Checked order checks number back (outcome checks back accepted)
 checked order checks number back accepted e told none =
     record {
@@ -150,38 +150,19 @@ demand-1 = (
     withdraw = λ c store sums d. checked _ _ _ _ _ refl (λ n. refl) refl;
     counts = λ c store sums. checked _ _ _ _ _ refl (λ n. refl) refl;
     response = λ c store sums r mean room tags. checked _ _ _ _ _ refl (λ n. refl) refl;
-    summary = λ c store sums room tags. checked _ _ _ _ _ refl (λ n. refl) (either (eqb (daysIn c standing) 0) _ _ refl refl);
+    summary = λ c store sums room tags. checked _ _ _ _ _ refl (λ n. refl) (either-0 (λ (o : Summary × List ℤ × List ℕ). summaryNumber (o .0)) (eqb (daysIn c standing) 0) _ _ refl refl);
   },
   record {
-    sequence = λ N taps out. tail-kept (sequenceOutcome N taps out) (sequenceChecks N taps out) _ _ refl (λ (o : ℕ × List ℕ). o .1) _ _ (λ n. refl) (written _ _ _);
-    recording = λ N taps y out room tags. (
-      tail-kept (recordingOutcome N taps y out room tags) (recordingChecks N taps y out room tags) _ _ refl (λ (o : ℕ × List ℤ × List ℤ × List ℕ). o .1) _ _ (λ n. refl) (written _ _ _),
-      tail-kept (recordingOutcome N taps y out room tags) (recordingChecks N taps y out room tags) _ _ refl (λ (o : ℕ × List ℤ × List ℤ × List ℕ). o .2) _ _ (λ n. refl) (written _ _ _),
-      tail-kept (recordingOutcome N taps y out room tags) (recordingChecks N taps y out room tags) _ _ refl (λ (o : ℕ × List ℤ × List ℤ × List ℕ). o .3) _ _ (λ n. refl) (written _ _ _),
-    );
-    prediction = λ N taps h out. tail-kept (predictionOutcome N taps h out) (predictionChecks N taps h out) _ _ refl (λ (o : ℕ × List ℤ). o .1) _ _ (λ n. refl) (written _ _ _);
-    start = λ c N taps C store sums. (
-      tail-kept (startOutcome c N taps C store sums) (startChecks N taps C store sums) _ _ refl (λ (o : Started × List ℤ × List ℤ). o .1) _ _ (λ n. refl) (written _ _ _),
-      tail-kept (startOutcome c N taps C store sums) (startChecks N taps C store sums) _ _ refl (λ (o : Started × List ℤ × List ℤ). o .2) _ _ (λ n. refl) (written _ _ _),
-    );
+    sequence = sequence-tail;
+    recording = recording-tails;
+    prediction = prediction-tail;
+    start = start-tails;
     enter = enter-tails;
     withdraw = withdraw-tails;
-    response = λ c store sums r mean room tags. (
-      tail-kept (responseOutcome c store sums r mean room tags) (responseChecks c store sums r mean room tags) _ _ refl (λ (o : ℕ × List ℤ × List ℤ × List ℤ × List ℕ). o .1) _ _ (λ n. refl) (written _ _ _),
-      tail-kept (responseOutcome c store sums r mean room tags) (responseChecks c store sums r mean room tags) _ _ refl (λ (o : ℕ × List ℤ × List ℤ × List ℤ × List ℕ). o .2) _ _ (λ n. refl) (written _ _ _),
-      tail-kept (responseOutcome c store sums r mean room tags) (responseChecks c store sums r mean room tags) _ _ refl (λ (o : ℕ × List ℤ × List ℤ × List ℤ × List ℕ). o .3) _ _ (λ n. refl) (written _ _ _),
-      tail-kept (responseOutcome c store sums r mean room tags) (responseChecks c store sums r mean room tags) _ _ refl (λ (o : ℕ × List ℤ × List ℤ × List ℤ × List ℕ). o .4) _ _ (λ n. refl) (written _ _ _),
-    );
-    summary = λ c store sums room tags. (
-      tail-kept (summaryOutcome c store sums room tags) (summaryChecks c store sums room tags) _ _ refl (λ (o : Summary × List ℤ × List ℕ). o .1) _ _ (λ n. refl) (tail-either (eqb (daysIn c standing) 0) _ _ (λ (o : Summary × List ℤ × List ℕ). o .1) _ _ (same refl) (written _ _ _)),
-      tail-kept (summaryOutcome c store sums room tags) (summaryChecks c store sums room tags) _ _ refl (λ (o : Summary × List ℤ × List ℕ). o .2) _ _ (λ n. refl) (tail-either (eqb (daysIn c standing) 0) _ _ (λ (o : Summary × List ℤ × List ℕ). o .2) _ _ (same refl) (written _ _ _)),
-    );
+    response = response-tails;
+    summary = summary-tails;
   },
 )
-  where
-    either : (b : Bool) (x y : Summary × List ℤ × List ℕ) → summaryNumber (x .0) ≡ 0 → summaryNumber (y .0) ≡ 0 → summaryNumber (cond b x y .0) ≡ 0
-    either true x y e g = e
-    either false x y e g = g
 
 -- ---- 2. "Taps for N stages, N from 2 to 16, are accepted exactly when the register, started at all ones, first returns there after P = 2^N - 1 steps.
 -- The response at shift k equals the direct circular cross-correlation of recording and sequence, less the sum of the recording, as document 002

@@ -3,5 +3,6 @@ mod Checking
 mod Tails
 mod Measuring
 pub mod Demands
+pub mod DoorRefusals
 pub mod Door
 pub mod Determined

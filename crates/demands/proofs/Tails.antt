@@ -5,6 +5,7 @@ use mathlib.Core.List.{List}
 use Prim.Native.Nat.{ℕ, zero, suc, _*_, _≤_, _<_, _+_, _-_}
 use native.Mathlib.Nat.{mul-le-mul-right, suc-mul}
 use native.Mathlib.Omega.{arith}
+use lib.Dec.{eqb}
 use lib.IntN.{ℤ, pos}
 use lib.ListN.{length, getD}
 use Rattle.sums.specs.Lists.{table, put, putAt}
@@ -12,39 +13,98 @@ use Rattle.sums.specs.Refusals.{first, answered, outcome}
 use Rattle.sums.proofs.Everywhere.{putAt-after}
 use Rattle.sums.proofs.Tables.{at-tail, length-table}
 use Rattle.register.specs.Register.{P}
-use Rattle.records.specs.Record.{base, together}
+use Rattle.register.specs.Calls.{sequenceChecks, sequenceOutcome}
+use Rattle.response.specs.Calls.{recordingChecks, recordingOutcome, predictionChecks, predictionOutcome}
+use Rattle.records.specs.Record.{standing, daysIn, base, together}
 use Rattle.records.specs.declared.Campaign.{Campaign}
 use Rattle.records.proofs.Holding.{holds-together}
-use Rattle.campaign.specs.Calls.{entered, enterOutcome, withdrawOutcome}
+use Rattle.campaign.specs.Calls.{startChecks, startOutcome, entered, enterOutcome, withdrawOutcome}
+use Rattle.campaign.specs.declared.Started.{Started}
 use Rattle.campaign.specs.declared.Verdict.the-variants as verdict
+use Rattle.trend.specs.Calls.{responseChecks, responseOutcome, summaryChecks, summaryOutcome}
+use Rattle.trend.specs.declared.Summary.{Summary}
 use Rattle.history.specs.Run.{World}
 use Rattle.history.proofs.Steps.{Entering, entering, Withdrawing, withdrawing}
 use Rattle.history.proofs.Steps as steps
 use Rattle.demands.specs.Buffers.{KeepsTail}
 
 module _ {A : Type 0} where
-  pub same : {n : ℕ} {l m : List A} → m ≡ l → KeepsTail n l m
+  same : {n : ℕ} {l m : List A} → m ≡ l → KeepsTail n l m
   same e = record { beyond = λ i z _. ap (λ l. getD l i z) e }
 
-  pub written : (n : ℕ) (f : ℕ → A) (l : List A) → KeepsTail n l (put (table n f) l)
+  written : (n : ℕ) (f : ℕ → A) (l : List A) → KeepsTail n l (put (table n f) l)
   written n f l = record { beyond = λ i z h. at-tail n f l i z h }
 
-  -- in one of two cases
-  pub tail-either : {B : Type 0} (b : Bool) (x y : B) (buffer : B → List A) (n : ℕ) (l : List A) → KeepsTail n l (buffer x) → KeepsTail n l (buffer y)
-      → KeepsTail n l (buffer (cond b x y))
-  tail-either true x y buffer n l p q = p
-  tail-either false x y buffer n l p q = q
+-- what holds of a refusal and of what is accepted
+either-way : {A : Type 0} (o : A) (checks : List (ℕ × Bool)) (back : ℕ → A) (accepted : A) → o ≡ outcome checks back accepted
+    → (Q : A → Type 0) → ((n : ℕ) → Q (back n)) → Q accepted → Q o
+either-way o checks back accepted e Q r k = rw e (go (first checks))
+  where
+    go : (n : ℕ) → Q (answered n back accepted)
+    go zero = k
+    go (suc n) = r (suc n)
 
-  -- of a call that refused hands the buffer back
-  pub tail-kept : {B : Type 0} (o : B) (checks : List (ℕ × Bool)) (back : ℕ → B) (accepted : B) → o ≡ outcome checks back accepted
-      → (buffer : B → List A) (n : ℕ) (l : List A) → ((m : ℕ) → buffer (back m) ≡ l) → KeepsTail n l (buffer accepted) → KeepsTail n l (buffer o)
-  tail-kept o checks back accepted e buffer n l r k = rw e (go (first checks))
+-- ---- the calls that only write outputs and room
+
+pub sequence-tail : (N taps : ℕ) (out : List ℕ) → KeepsTail (P N) out (sequenceOutcome N taps out .1)
+unfolding sequenceOutcome
+sequence-tail N taps out =
+    either-way (sequenceOutcome N taps out) (sequenceChecks N taps out) _ _ refl (λ (o : ℕ × List ℕ). KeepsTail (P N) out (o .1)) (λ n. same refl) (written _ _ _)
+
+pub prediction-tail : (N taps : ℕ) (h out : List ℤ) → KeepsTail (P N) out (predictionOutcome N taps h out .1)
+unfolding predictionOutcome
+prediction-tail N taps h out =
+    either-way (predictionOutcome N taps h out) (predictionChecks N taps h out) _ _ refl (λ (o : ℕ × List ℤ). KeepsTail (P N) out (o .1)) (λ n. same refl) (written _ _ _)
+
+module _ (N taps : ℕ) (y out room : List ℤ) (tags : List ℕ) where
+  abbrev HeardTails : ℕ × List ℤ × List ℤ × List ℕ → Type 0
+  HeardTails o = KeepsTail (P N) out (o .1) × KeepsTail (P N + 1) room (o .2) × KeepsTail (2 * P N) tags (o .3)
+
+  pub recording-tails : HeardTails (recordingOutcome N taps y out room tags)
+  unfolding recordingOutcome
+  recording-tails =
+      either-way (recordingOutcome N taps y out room tags) (recordingChecks N taps y out room tags) _ _ refl HeardTails
+      (λ n. (same refl, same refl, same refl)) (written _ _ _, written _ _ _, written _ _ _)
+
+module _ (c : Campaign) (store sums r mean room : List ℤ) (tags : List ℕ) where
+  abbrev AnsweredTails : ℕ × List ℤ × List ℤ × List ℤ × List ℕ → Type 0
+  AnsweredTails o =
+      KeepsTail (P (c .order)) r (o .1) × KeepsTail (P (c .order)) mean (o .2) × KeepsTail (P (c .order) + 1) room (o .3)
+      × KeepsTail (2 * P (c .order)) tags (o .4)
+
+  pub response-tails : AnsweredTails (responseOutcome c store sums r mean room tags)
+  unfolding responseOutcome
+  response-tails =
+      either-way (responseOutcome c store sums r mean room tags) (responseChecks c store sums r mean room tags) _ _ refl AnsweredTails
+      (λ n. (same refl, same refl, same refl, same refl)) (written _ _ _, written _ _ _, written _ _ _, written _ _ _)
+
+module _ (c : Campaign) (store sums room : List ℤ) (tags : List ℕ) where
+  abbrev SummedTails : Summary × List ℤ × List ℕ → Type 0
+  SummedTails o = KeepsTail (P (c .order) + 1) room (o .1) × KeepsTail (2 * P (c .order)) tags (o .2)
+
+  pub summary-tails : SummedTails (summaryOutcome c store sums room tags)
+  unfolding summaryOutcome
+  summary-tails =
+      either-way (summaryOutcome c store sums room tags) (summaryChecks c store sums room tags) _ _ refl SummedTails
+      (λ n. (same refl, same refl)) (by-standing (eqb (daysIn c standing) 0) _ _ (same refl, same refl) (written _ _ _, written _ _ _))
     where
-      go : (m : ℕ) → KeepsTail n l (buffer (answered m back accepted))
-      go zero = k
-      go (suc m) = same (r (suc m))
+      by-standing : (b : Bool) (o p : Summary × List ℤ × List ℕ) → SummedTails o → SummedTails p → SummedTails (cond b o p)
+      by-standing true o p t u = t
+      by-standing false o p t u = u
 
--- ---- the store's tail, where a slot is filled or emptied
+-- ---- a start
+
+module _ (c : Campaign) (N taps C : ℕ) (store sums : List ℤ) where
+  abbrev BegunTails : Started × List ℤ × List ℤ → Type 0
+  BegunTails o = KeepsTail (C * P N) store (o .1) × KeepsTail (P N) sums (o .2)
+
+  pub start-tails : BegunTails (startOutcome c N taps C store sums)
+  unfolding startOutcome
+  start-tails =
+      either-way (startOutcome c N taps C store sums) (startChecks N taps C store sums) _ _ refl BegunTails
+      (λ n. (same refl, same refl)) (written _ _ _, written _ _ _)
+
+-- ---- an entry and a withdrawal: the store's tail, where a slot is filled or emptied
 
 module _ (c : Campaign) (store : List ℤ) (k : ℕ) (l : k < c .slots) (z : List ℤ) (long : length z ≡ P (c .order))
     (room : c .slots * P (c .order) ≤ length store) where

@@ -28,6 +28,7 @@ use Rattle.records.proofs.Holding.{holds-together}
 use Rattle.records.proofs.Tallying.{standing-most}
 use Rattle.records.proofs.Refiling.{Day, day}
 use Rattle.history.proofs.History.{SaysRun, says, if-alike}
+use Rattle.history.proofs.UnderWay.{stays-under-way, same-campaign}
 use Rattle.history.proofs.Steps.{outcome-cases, Entering, entering}
 use Rattle.history.proofs.Steps as steps
 use Rattle.history.proofs.Undone.{Undone, undone, withdraw-accepted}
@@ -104,19 +105,7 @@ module _ (w₀ : World) (cs : List Call) (started : underWay w₀ cs ≡ true) (
   here = record { going = started; same = refl }
 
   further : {calls : List Call} → Onward calls → (call : Call) → starts call ≡ false → Onward (call ∷ calls)
-  unfolding underWay begun
-  further {calls} o call n = record { going = rw n (o .going); same = still-same call n ∙ o .same }
-    where
-      either : (k : Bool) → cond k (begun w₀ calls) (begun w₀ calls) ≡ begun w₀ calls
-      either k = if-alike k (begun w₀ calls)
-
-      still-same : (k : Call) → starts k ≡ false → begun w₀ (k ∷ calls) ≡ begun w₀ calls
-      still-same (start N taps C) e = absurd (subst T e tt)
-      still-same (enter e z) _ = either (accepted (run w₀ calls) (enter e z))
-      still-same (withdraw e) _ = either (accepted (run w₀ calls) (withdraw e))
-      still-same counts _ = either (accepted (run w₀ calls) counts)
-      still-same (response x1 x2 x3 x4) _ = either (accepted (run w₀ calls) (response x1 x2 x3 x4))
-      still-same (summary x1 x2) _ = either (accepted (run w₀ calls) (summary x1 x2))
+  further {calls} o call n = record { going = stays-under-way w₀ call calls (o .going); same = same-campaign w₀ call calls n ∙ o .same }
 
   no-start : (call : Call) → names call d ≡ false → starts call ≡ false
   no-start (start N taps C) e = e
