@@ -39,7 +39,7 @@ use Rattle.trend.specs.Calls.{countsOutcome, countsNumber, responseChecks, resp
 use Rattle.trend.specs.declared.Counts.the-variants as counts
 use Rattle.trend.specs.declared.Summary.{Summary}
 use Rattle.trend.specs.declared.Summary.the-variants as summary
-use Rattle.history.specs.Run.{World, Call, answer, run, underWay, begun, makes, made, heard, Elsewhere}
+use Rattle.history.specs.Run.{World, Call, after, answer, run, underWay, begun, makes, made, heard, Elsewhere}
 use Rattle.history.specs.Run as call
 use Rattle.history.proofs.UnderWay.{from-start}
 use Rattle.history.proofs.EveryRun as every-run
@@ -196,29 +196,29 @@ demand-2 =
 -- then standing. If at least one day stands, and each such recording is the circular convolution of a whole-number response with the sequence, the
 -- answer at every place is exactly P + 1 times the sum of those responses there."
 --
--- Of the calls `cs`, the latest first, from the record and the memory w₀, whatever they held. A start may come again: refused, the campaign goes on;
--- accepted, a new one begins, which names every day. N, taps and C are those of the last accepted start (`begun`).
+-- The calls `cs`, the latest first, lead from w₀, a record and memory that may hold anything, to w. A start may come again: refused, the campaign goes
+-- on; accepted, it names every day, and a new campaign begins. The order, taps and slot count are those of the last accepted start (`begun`).
 
-pub record Said (w₀ : World) (cs : List Call) : Type 0 where
-  pub each-day : (d : ℕ) → 1 ≤ d → d ≤ 366 → state (run w₀ cs .campaign) d ≡ made w₀ cs d
+pub record Said (w₀ : World) (cs : List Call) (w : World) : Type 0 where
+  pub each-day : (d : ℕ) → 1 ≤ d → d ≤ 366 → state (w .campaign) d ≡ made w₀ cs d
   pub sums : (j : ℕ) → j < P (begun w₀ cs .order)
-      → at (run w₀ cs .sums) j ≡ sum 366 (λ i. cond (eqb (made w₀ cs (i + 1)) standing) (at (heard w₀ cs (i + 1)) j) (pos 0))
+      → at (w .sums) j ≡ sum 366 (λ i. cond (eqb (made w₀ cs (i + 1)) standing) (at (heard w₀ cs (i + 1)) j) (pos 0))
   pub response : let N = begun w₀ cs .order in (h : ℕ → ℕ → ℤ)
       → ((d : ℕ) → 1 ≤ d → d ≤ 366 → made w₀ cs d ≡ standing → (j : ℕ) → j < P N
       → at (heard w₀ cs d) j ≡ formula.prediction (P N) (wave N (begun w₀ cs .taps)) (h d) j)
       → (d : ℕ) → 1 ≤ d → d ≤ 366 → made w₀ cs d ≡ standing
       → (r mean room : List ℤ) (tags : List ℕ) → P N ≤ length r → P N ≤ length mean → P N + 1 ≤ length room → 2 * P N ≤ length tags
-      → let o = responseOutcome (run w₀ cs .campaign) (run w₀ cs .store) (run w₀ cs .sums) r mean room tags in
+      → let o = responseOutcome (w .campaign) (w .store) (w .sums) r mean room tags in
       (o .0 ≡ 0)
       × ((k : ℕ) → k < P N → at (o .1) k ≡ pos (P N + 1) *ℤ sum 366 (λ i. cond (eqb (made w₀ cs (i + 1)) standing) (h (i + 1) k) (pos 0)))
   -- and what document 01 adds
-  pub order : run w₀ cs .campaign .order ≡ begun w₀ cs .order
-  pub taps : run w₀ cs .campaign .taps ≡ begun w₀ cs .taps
-  pub slots : run w₀ cs .campaign .slots ≡ begun w₀ cs .slots
-  pub holds : together (run w₀ cs .campaign) (run w₀ cs .store) (run w₀ cs .sums) ≡ true
-  pub no-fifteen : (call : Call) → answer (run w₀ cs) call ≡ 15 → ⊥
-  pub refused : (call : Call) → (answer (run w₀ cs) call ≡ 0 → ⊥) → run w₀ (call ∷ cs) ≡ run w₀ cs
-  pub counts : let days : ℕ → ℕ = λ q. many 366 (λ i. eqb (made w₀ cs (i + 1)) q) in countsOutcome (run w₀ cs .campaign) (run w₀ cs .store) (run w₀ cs .sums)
+  pub order : w .campaign .order ≡ begun w₀ cs .order
+  pub taps : w .campaign .taps ≡ begun w₀ cs .taps
+  pub slots : w .campaign .slots ≡ begun w₀ cs .slots
+  pub holds : together (w .campaign) (w .store) (w .sums) ≡ true
+  pub no-fifteen : (call : Call) → answer w call ≡ 15 → ⊥
+  pub refused : (call : Call) → (answer w call ≡ 0 → ⊥) → after w call ≡ w
+  pub counts : let days : ℕ → ℕ = λ q. many 366 (λ i. eqb (made w₀ cs (i + 1)) q) in countsOutcome (w .campaign) (w .store) (w .sums)
       ≡ counts.Counted (record {
         unseen = days unseen;
         standing = days standing;
@@ -228,14 +228,15 @@ pub record Said (w₀ : World) (cs : List Call) : Type 0 where
       })
 
 -- of every run in which a start was accepted
-pub said : (w₀ : World) (cs : List Call) → underWay w₀ cs ≡ true → Said w₀ cs
-unfolding run every-run.daysMade every-run.total
+pub said : (w₀ : World) (cs : List Call) → underWay w₀ cs ≡ true → Said w₀ cs (run w₀ cs)
+unfolding every-run.daysMade every-run.total
 said w₀ cs u =
     record {
       each-day = λ d a b. every-run.each-day w₀ cs u d (record { first = a; last = b });
       sums = every-run.sums-are w₀ cs u;
-      response = λ h v d a b e r mean room tags l1 l2 l3 l4. rw (add-one (P (begun w₀ cs .order))) (
-          every-run.recovered w₀ cs u h (λ d y. v d (y .first) (y .last)) d (record { first = a; last = b }) e r mean room tags
+      response = λ h v d a b e r mean room tags l1 l2 l3 l4.
+          rw (add-one (P (begun w₀ cs .order)))
+          (every-run.recovered w₀ cs u h (λ d y. v d (y .first) (y .last)) d (record { first = a; last = b }) e r mean room tags
           (record { r-long = l1; mean-long = l2; room-long = l3; tags-long = l4 }));
       order = every-run.same-order w₀ cs u .0;
       taps = every-run.same-order w₀ cs u .1;
@@ -248,7 +249,7 @@ said w₀ cs u =
 
 -- so of every run that begins with an accepted start
 pub demand-3 : (w₀ : World) (N taps C : ℕ) → startOutcome (w₀ .campaign) N taps C (w₀ .store) (w₀ .sums) .0 .answer ≡ 0
-    → (cs : List Call) → Said w₀ (cs ++ call.start N taps C ∷ [])
+    → (cs : List Call) → let all = cs ++ call.start N taps C ∷ [] in Said w₀ all (run w₀ all)
 demand-3 w₀ N taps C e cs = said _ _ (from-start w₀ N taps C e cs)
 
 -- ---- Document 01: "A kept entry followed at once by its withdrawal gives back store, sums and slots bit for bit. With calls on other days between, the sums

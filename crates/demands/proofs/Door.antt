@@ -250,12 +250,12 @@ as-run l t (c ∷ cs) =
       tables = f .2;
     }
 
--- the third demand, of a C caller: from a door's start that answered 0, whatever tables and memory it lends
+-- the third demand, of a C caller: from a door's start that answered 0, whatever tables and memory it lends, what it then holds
 pub record DoorSaid (l : Lent) (cs : List DoorCall) : Type 0 where
   pub as-run : AsRun l cs
-  pub said : Said (worldOf l) (behindDoors cs)
+  pub said : Said (worldOf l) (behindDoors cs) (worldOf (doorRun l cs))
   pub no-fifteen : (c : DoorCall) → doorAnswer (doorRun l cs) c ≡ 15 → ⊥
-  pub response : (r mean room : List ℤ) (tags : List ℕ) → let h = doorRun l cs in let w = run (worldOf l) (behindDoors cs) in
+  pub response : (r mean room : List ℤ) (tags : List ℕ) → let h = doorRun l cs in let w = worldOf h in
       responseDoor (h .order) (h .taps) (h .count) (h .days) (h .slots) (h .store) (h .sums) r mean room tags
       ≡ responseOutcome (w .campaign) (w .store) (w .sums) r mean room tags
 
@@ -271,19 +271,20 @@ door-demand-3 l N taps C e cs =
     record {
       as-run = s;
       said = d;
-      no-fifteen = λ c h. d .no-fifteen (behindDoor c) (sym (s .says c) ∙ h);
-      response = λ r mean room tags.
-          response-opened (doorRun l (cs ++ start N taps C ∷ [])) (s .tables) r mean room tags
-          ∙ ap (λ (w : World). responseOutcome (w .campaign) (w .store) (w .sums) r mean room tags) (s .world);
+      no-fifteen = λ c h. d .no-fifteen (behindDoor c) (sym (follows (doorRun l all) (s .tables) c .1) ∙ h);
+      response = response-opened (doorRun l all) (s .tables);
     }
   where
+    all : List DoorCall
+    all = cs ++ start N taps C ∷ []
+
     long : Long (l .days) (l .slots)
     long = let h = started-long N taps C (l .days) (l .slots) (l .store) (l .sums) e in record { days = h .0; slots = h .1 }
 
     s : AsRun l (cs ++ start N taps C ∷ [])
     s = as-run l long (cs ++ start N taps C ∷ [])
 
-    d : Said (worldOf l) (behindDoors (cs ++ start N taps C ∷ []))
+    d : Said (worldOf l) (behindDoors (cs ++ start N taps C ∷ [])) (worldOf (doorRun l (cs ++ start N taps C ∷ [])))
     d =
-        subst (Said (worldOf l)) (sym (appended cs (start N taps C ∷ [])))
+        rw (s .world, appended cs (start N taps C ∷ []))
         (demand-3 (worldOf l) N taps C (sym (follows l long (start N taps C) .1) ∙ e) (behindDoors cs))
