@@ -1,5 +1,10 @@
 -- The three demands, each in the user's words and then as laws, over the public definitions alone: the outcome function of each call, which its
 -- contract says it meets (docs/PROMISES.md has the table), and the runs of `history`, Run. Assumes nothing.
+--
+-- The words used. `first checks` is the number of the first check whose test holds, 0 where none does. `P N` is 2^N - 1, `window N taps k` the register
+-- after k steps from N ones, which is P N, and `wave N taps k` the signal 1 - 2·s(k). `at l j` is place j of a list, `sum n f` the sum of f 0 to f (n - 1).
+-- `run w₀ cs` is the world, a record with the memory lent, after the calls cs, the latest first. `made w₀ cs d` is what the last accepted call naming
+-- day d made it, or unseen; `heard w₀ cs d` is the last recording accepted for it; `begun w₀ cs` is the record that the last accepted start made.
 use mathlib.Core.Path.{_≡_, refl}
 use mathlib.Core.Logic.{_↔_}
 use mathlib.Core.Bool.{Bool, true, false, cond, not, _&&_}
@@ -168,8 +173,11 @@ demand-1 = (
 -- The response at shift k equals the direct circular cross-correlation of recording and sequence, less the sum of the recording, as document 002
 -- defines it before its last division, exact, with no overflow. A predicted recording equals the circular convolution of the given response with the
 -- sequence."
+--
+-- Indices count modulo P: x(j-k) is `wave` at (j + (P - k)) % P. That nothing overflows on the way either is part of each function's proof.
 
 pub record Measures : Type 0 where
+  -- `Maximal`: the window is P N again after P N steps, and after no fewer
   pub taps-check : (N taps : ℕ) → 2 ≤ N → N ≤ 16 → taps < 2 ^ N → (tapsAnswer N taps ≡ 0) ↔ Maximal N taps
   pub sequence : (N taps : ℕ) (out : List ℕ) → sequenceOutcome N taps out .0 ≡ 0
       → (k : ℕ) → k < P N → getD (sequenceOutcome N taps out .1) k 0 ≡ window N taps k % 2
@@ -205,7 +213,7 @@ pub record Said (w₀ : World) (cs : List Call) (w : World) : Type 0 where
       → at (w .sums) j ≡ sum 366 (λ i. cond (eqb (made w₀ cs (i + 1)) standing) (at (heard w₀ cs (i + 1)) j) (pos 0))
   pub response : let N = begun w₀ cs .order in (h : ℕ → ℕ → ℤ)
       → ((d : ℕ) → 1 ≤ d → d ≤ 366 → made w₀ cs d ≡ standing → (j : ℕ) → j < P N
-      → at (heard w₀ cs d) j ≡ formula.prediction (P N) (wave N (begun w₀ cs .taps)) (h d) j)
+      → at (heard w₀ cs d) j ≡ sum (P N) (λ i. h d i *ℤ wave N (begun w₀ cs .taps) ((j + (P N - i)) % P N)))
       → (d : ℕ) → 1 ≤ d → d ≤ 366 → made w₀ cs d ≡ standing
       → (r mean room : List ℤ) (tags : List ℕ) → P N ≤ length r → P N ≤ length mean → P N + 1 ≤ length room → 2 * P N ≤ length tags
       → let o = responseOutcome (w .campaign) (w .store) (w .sums) r mean room tags in
@@ -229,7 +237,7 @@ pub record Said (w₀ : World) (cs : List Call) (w : World) : Type 0 where
 
 -- of every run in which a start was accepted
 pub said : (w₀ : World) (cs : List Call) → underWay w₀ cs ≡ true → Said w₀ cs (run w₀ cs)
-unfolding every-run.daysMade every-run.total
+unfolding every-run.daysMade every-run.total formula.prediction
 said w₀ cs u =
     record {
       each-day = λ d a b. every-run.each-day w₀ cs u d (record { first = a; last = b });
@@ -254,6 +262,9 @@ demand-3 w₀ N taps C e cs = said _ _ (from-start w₀ N taps C e cs)
 
 -- ---- Document 01: "A kept entry followed at once by its withdrawal gives back store, sums and slots bit for bit. With calls on other days between, the sums
 -- and the set of standing days are as if it had not come, provided none of those calls was refused with 12; slots may differ."
+--
+-- `makes` is what an accepted call makes of its day: standing, so the entry is kept. `Elsewhere`: the calls between name other days than d, and none of
+-- them is refused with 12.
 
 pub record TakenBack (w₀ : World) (cs : List Call) (d : ℕ) (y : List ℤ) : Type 0 where
   pub at-once : let w = run w₀ (call.withdraw d ∷ call.enter d y ∷ cs) in
@@ -261,7 +272,8 @@ pub record TakenBack (w₀ : World) (cs : List Call) (d : ℕ) (y : List ℤ) : 
   pub as-if : (between : List Call) → Elsewhere w₀ d (call.enter d y ∷ cs) between
       → let with-it = run w₀ (call.withdraw d ∷ between ++ call.enter d y ∷ cs) in
       let without-it = run w₀ (between ++ cs) in
-      ((j : ℕ) → j < P (begun w₀ cs .order) → at (with-it .sums) j ≡ at (without-it .sums) j)
+      (answer (run w₀ (between ++ call.enter d y ∷ cs)) (call.withdraw d) ≡ 0)
+      × ((j : ℕ) → j < P (begun w₀ cs .order) → at (with-it .sums) j ≡ at (without-it .sums) j)
       × ((e : ℕ) → 1 ≤ e → e ≤ 366 → stands (with-it .campaign) e ≡ stands (without-it .campaign) e)
 
 pub taken-back : (w₀ : World) (cs : List Call) → underWay w₀ cs ≡ true → (d : ℕ) → 1 ≤ d → d ≤ 366 → (y : List ℤ)
@@ -273,9 +285,10 @@ taken-back w₀ cs u d a b y e k =
     record {
       at-once = (o .store, o .sums, o .slots);
       as-if = λ between n.
-          let s = as-if.as-if w₀ cs u d y r e k between n .1 in (
-            s .sums,
-            λ i l h. s .days i (record { first = l; last = h }),
+          let s = as-if.as-if w₀ cs u d y r e k between n in (
+            s .0,
+            s .1 .sums,
+            λ i l h. s .1 .days i (record { first = l; last = h }),
           );
     }
 
