@@ -74,8 +74,9 @@ static void campaigns(void) {
     days[METER_DAYS] = 9;
     slots[METER_SLOTS] = 9;
     store[0] = 9;
-    EXPECT(meter_start(ORDER, TAPS, SLOT_COUNT, days, METER_DAYS - 1, slots, METER_SLOTS, store, SLOT_COUNT * P, sums, P) == 15 && store[0] == 9);
-    EXPECT(meter_start(ORDER, TAPS, SLOT_COUNT, days, METER_DAYS, slots, METER_SLOTS - 1, store, SLOT_COUNT * P, sums, P) == 15 && store[0] == 9);
+    EXPECT(meter_start(ORDER, TAPS, SLOT_COUNT, days, METER_DAYS - 1, slots, METER_SLOTS, store, SLOT_COUNT * P, sums, P) == 6 && store[0] == 9);
+    EXPECT(meter_start(ORDER, TAPS, SLOT_COUNT, days, METER_DAYS, slots, METER_SLOTS - 1, store, SLOT_COUNT * P, sums, P) == 6 && store[0] == 9);
+    EXPECT(meter_start(ORDER, TAPS, 65, days, METER_DAYS - 1, slots, METER_SLOTS, store, SLOT_COUNT * P, sums, P) == 9 && store[0] == 9);
     EXPECT(meter_start(ORDER, TAPS, 65, days, METER_DAYS, slots, METER_SLOTS, store, SLOT_COUNT * P, sums, P) == 9);
     EXPECT(meter_start(RECORD) == 0 && store[0] == 0);
     EXPECT(meter_response(RECORD, r, P + 1, mean, P + 1, ROOM) == 14);

@@ -213,7 +213,7 @@ fn main() -> ExitCode {
     expect!(r == R && room.is_clear());
     expect!(recording(3, 3, &Y[..6], &mut r, &mut room) == 5);
 
-    expect!(Campaign::start(3, 3, 2, 365).err() == Some(15));
+    expect!(Campaign::start(3, 3, 2, 365).err() == Some(6));
     let mut c = Campaign::start(3, 3, 2, 366).expect("01's example starts");
     expect!(c.summary(&mut room) == Ok(None));
     expect!(c.enter(1, &Y) == Ok((1, 0)));

@@ -53,9 +53,10 @@ uint32_t meter_recording(uint32_t order, uint32_t taps, const int32_t *y, size_t
 uint32_t meter_predict(uint32_t order, uint32_t taps, const int32_t *h, size_t h_len, int32_t *out, size_t out_len);
 
 /* ---- a campaign: the record is order, taps and slot_count, which no call changes, and the two tables `days` (366) and `slots` (64).
- * A shorter table is refused with 15 before all else. The store is slot_count * P samples, the sums P wide numbers. ---- */
+ * A shorter table is room too short at a start, 6 in its place; every other call refuses it with 15 before all else. The store is
+ * slot_count * P samples, the sums P wide numbers. ---- */
 
-/* Every day unseen, every slot free, zeros in the store and the sums: 15 (tables), 1, 2, 3, 4, 9, 6. */
+/* Every day unseen, every slot free, zeros in the store and the sums: 1, 2, 3, 4, 9, 6. */
 uint32_t meter_start(uint32_t order, uint32_t taps, uint32_t slot_count, uint8_t *days, size_t days_len,
                      uint16_t *slots, size_t slots_len, int32_t *store, size_t store_len, int64_t *sums, size_t sums_len);
 

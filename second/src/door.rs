@@ -4,7 +4,7 @@
 use crate::campaign::{self, Campaign, DayState, Lent, DAYS, FREE, MOST_SLOTS};
 use crate::player::Player;
 use crate::reading::Summary;
-use crate::refusal::{number, Refusal, DOES_NOT_HOLD_TOGETHER};
+use crate::refusal::{number, Refusal, DOES_NOT_HOLD_TOGETHER, ROOM_TOO_SHORT};
 use crate::register::{check_taps, default_taps, sequence};
 use crate::response::{one_recording, predict, HIGHEST, LOWEST};
 use crate::rng::Rng;
@@ -238,9 +238,13 @@ impl Held {
         self.slots[..MOST_SLOTS].copy_from_slice(&record.table);
     }
 
+    /// A start lends no record yet: a short table is room too short.
     fn start(&mut self) -> Refusal {
+        if let Err(refusal) = campaign::check_start(self.order, self.taps, self.count) {
+            return refusal;
+        }
         if !self.tables_long() {
-            return DOES_NOT_HOLD_TOGETHER;
+            return ROOM_TOO_SHORT;
         }
         let Lent { store, sums } = &mut self.lent;
         let started = campaign::start(self.order, self.taps, self.count, store, sums);

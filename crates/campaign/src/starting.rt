@@ -26,7 +26,7 @@ fn memory_short(slots: usize, period: usize, store: usize, sums: usize) -> bool
 }
 
 // The first of 1, 2, 3, 4, 9, 6 that refuses a start with so much memory, and 0 where none does.
-fn start_refusal(order: u32, taps: u32, slots: u32, store: usize, sums: usize) -> u32
+pub fn start_refusal(order: u32, taps: u32, slots: u32, store: usize, sums: usize) -> u32
     ensures { λ n. ⌜ n ≡ first (tapsChecks order taps ++ (9, slotsOut slots) ∷ (6, ltb store (slots * P order) || ltb sums (P order)) ∷ []) ⌝ }
 {
     let refusal = check_taps(order, taps);

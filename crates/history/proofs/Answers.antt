@@ -13,11 +13,12 @@ use Rattle.sums.specs.Refusals.{first, outcome}
 use Rattle.sums.proofs.First.{accepts}
 use Rattle.register.specs.Register.{P}
 use Rattle.response.specs.Calls.{clearedWide, clearedTags}
-use Rattle.records.specs.Record.{standing, overloaded, dead, daysIn, together, marked}
-use Rattle.campaign.specs.Calls.{enterChecks, withdrawChecks, railPlace, still, entered, keptOutcome, judgedOutcome, withdrawnOutcome, enterOutcome, withdrawOutcome, verdictNumber}
+use Rattle.records.specs.Record.{standing, overloaded, dead, daysIn, together, fresh, marked}
+use Rattle.campaign.specs.Calls.{startChecks, enterChecks, withdrawChecks, railPlace, still, entered, keptOutcome, judgedOutcome, withdrawnOutcome, startOutcome, enterOutcome, withdrawOutcome, verdictNumber}
 use Rattle.trend.specs.Calls.{responseChecks, summaryChecks, tally, countsOutcome, responseOutcome, summaryOutcome, worked, meanAt, levelsOf, divisor, countsNumber, summaryNumber}
-use Rattle.history.specs.Run.{World, Call, enter, withdraw, counts, response, summary, answer}
+use Rattle.history.specs.Run.{World, Call, start, enter, withdraw, counts, response, summary, answer}
 use Rattle.records.specs.declared.Campaign.{Campaign}
+use Rattle.campaign.specs.declared.Started.{Started}
 use Rattle.campaign.specs.declared.Entered.{Entered}
 use Rattle.campaign.specs.declared.Withdrawn.{Withdrawn}
 use Rattle.campaign.specs.declared.Verdict.the-variants as verdict
@@ -104,7 +105,12 @@ module _ (w : World) (t : together (w .campaign) (w .store) (w .sums) ≡ true) 
           (λ n _ h g. not-first 15 ((12, eqb (daysIn (w .campaign) standing) (w .campaign .slots)) ∷ []) tt (h ∙ g)) (λ _ g. omega arith) e
 
   pub never-fifteen : (call : Call) → answer w call ≡ 15 → ⊥
-  unfolding enterOutcome withdrawOutcome countsOutcome responseOutcome summaryOutcome
+  unfolding startOutcome enterOutcome withdrawOutcome countsOutcome responseOutcome summaryOutcome
+  never-fifteen (start N taps C) =
+      outcome-cases {A = Started × List ℤ × List ℤ} (startChecks N taps C (w .store) (w .sums)) tt
+      (λ n. (record { answer = n; campaign = w .campaign }, w .store, w .sums))
+      (record { answer = 0; campaign = fresh N taps C }, clearedWide (C * P N) (w .store), clearedWide (P N) (w .sums)) (λ o. o .0 .answer ≡ 15 → ⊥)
+      (λ n _ h g. not-first 15 (startChecks N taps C (w .store) (w .sums)) tt (h ∙ g)) (λ _ g. omega arith)
   never-fifteen (enter d y) =
       outcome-cases {A = Entered × List ℤ × List ℤ} (enterChecks (w .campaign) (w .store) (w .sums) d y) tt
       (λ n. (entered (w .campaign) d (verdict.Refused n), w .store, w .sums)) (judgedOutcome (w .campaign) (w .store) (w .sums) d y) (λ o. verdictNumber (o .0 .entry .verdict) ≡ 15 → ⊥)

@@ -1,5 +1,6 @@
 -- A kept entry withdrawn after calls on other days: the sums and the set of standing days are as if it had not come, provided none of those
--- calls was refused with 12. Withdrawn at once: store, sums and slots are as they were. For every run. Assumes nothing.
+-- calls was refused with 12. A start names every day, so none is among those calls. Withdrawn at once: store, sums and slots are as they were.
+-- For every run. Assumes nothing.
 use mathlib.Core.Path.{_≡_, refl, sym, ap, ap₂, subst, _∙_}
 use mathlib.Core.Bool.{Bool, true, false, cond, not, _&&_}
 use mathlib.Core.List.{List, [], _∷_, _++_}
@@ -17,8 +18,8 @@ use Rattle.sums.proofs.Sum.{sum-ext, total-changed}
 use Rattle.register.specs.Register.{P}
 use Rattle.response.specs.Calls.{lengthOff, someOut}
 use Rattle.records.specs.Record.{standing, overloaded, dead, withdrawn, state, stands, daysIn, together, marked}
-use Rattle.campaign.specs.Calls.{dayOut, enterChecks, withdrawChecks, railPlace, still, entered, keptOutcome, judgedOutcome, withdrawnOutcome, enterOutcome, withdrawOutcome, verdictNumber, startOutcome}
-use Rattle.history.specs.Run.{World, Call, enter, withdraw, counts, response, summary, after, answer, accepted, run, names, makes, made, recording, heard}
+use Rattle.campaign.specs.Calls.{dayOut, enterChecks, withdrawChecks, railPlace, still, entered, keptOutcome, judgedOutcome, withdrawnOutcome, enterOutcome, withdrawOutcome, verdictNumber}
+use Rattle.history.specs.Run.{World, Call, start, enter, withdraw, counts, response, summary, after, answer, accepted, run, starts, underWay, begun, names, makes, made, recording, heard, Elsewhere}
 use Rattle.records.specs.declared.Campaign.{Campaign}
 use Rattle.campaign.specs.declared.Entered.{Entered}
 use Rattle.campaign.specs.declared.Withdrawn.{Withdrawn}
@@ -26,8 +27,8 @@ use Rattle.campaign.specs.declared.Verdict.the-variants as verdict
 use Rattle.records.proofs.Holding.{holds-together}
 use Rattle.records.proofs.Tallying.{standing-most}
 use Rattle.records.proofs.Refiling.{Day, day}
-use Rattle.history.proofs.Begun.{begun, started}
-use Rattle.history.proofs.History.{SaysRun, says}
+use Rattle.history.proofs.History.{SaysRun, says, if-alike}
+use Rattle.history.proofs.UnderWay.{stays-under-way, same-campaign}
 use Rattle.history.proofs.Steps.{outcome-cases, Entering, entering}
 use Rattle.history.proofs.Steps as steps
 use Rattle.history.proofs.Undone.{Undone, undone, withdraw-accepted}
@@ -87,11 +88,7 @@ pub record AsIf (p : ℕ) (a b : World) : Type 0 where
   pub sums : (j : ℕ) → j < p → at (a .sums) j ≡ at (b .sums) j
   pub days : (e : ℕ) → Day e → stands (a .campaign) e ≡ stands (b .campaign) e
 
-module _ (c : Campaign) (N taps C : ℕ) (store sums : List ℤ) (begin : startOutcome c N taps C store sums .0 .answer ≡ 0) (cs : List Call)
-    (d : ℕ) (y : List ℤ) (r : Day d) where
-  abbrev w₀ : World
-  w₀ = begun N taps C store sums
-
+module _ (w₀ : World) (cs : List Call) (started : underWay w₀ cs ≡ true) (d : ℕ) (y : List ℤ) (r : Day d) where
   -- the calls `between` after the entry, and the same with no entry
   abbrev with-it : List Call → List Call
   with-it between = between ++ (enter d y ∷ cs)
@@ -99,20 +96,35 @@ module _ (c : Campaign) (N taps C : ℕ) (store sums : List ℤ) (begin : startO
   abbrev without-it : List Call → List Call
   without-it between = between ++ cs
 
-  ever : (calls : List Call) → SaysRun (begun N taps C store sums) calls
-  ever = says N taps C store sums (started c N taps C store sums begin .0)
+  -- calls of the same campaign: none is a start
+  record Onward (calls : List Call) : Type 0 where
+    pub going : underWay w₀ calls ≡ true
+    pub same : begun w₀ calls ≡ begun w₀ cs
 
-  holds : (calls : List Call) → together (run (begun N taps C store sums) calls .campaign) (run (begun N taps C store sums) calls .store) (run (begun N taps C store sums) calls .sums) ≡ true
-  holds calls = holds-together _ _ _ .1 (ever calls .holds)
+  here : Onward cs
+  here = record { going = started; same = refl }
 
-  -- calls on other days, none of them refused with 12
-  unfoldable pub Between : List Call → Type 0
-  Between [] = Unit
-  Between (call ∷ between) =
-      (names call d ≡ false) × (answer (run w₀ (with-it between)) call ≡ 12 → ⊥) × Between between
+  further : {calls : List Call} → Onward calls → (call : Call) → starts call ≡ false → Onward (call ∷ calls)
+  further {calls} o call n = record { going = stays-under-way w₀ call calls (o .going); same = same-campaign w₀ call calls n ∙ o .same }
+
+  no-start : (call : Call) → names call d ≡ false → starts call ≡ false
+  no-start (start N taps C) e = e
+  no-start (enter e z) _ = refl
+  no-start (withdraw e) _ = refl
+  no-start counts _ = refl
+  no-start (response x1 x2 x3 x4) _ = refl
+  no-start (summary x1 x2) _ = refl
+
+  ever : {calls : List Call} → Onward calls → SaysRun w₀ calls
+  ever {calls} o = says w₀ calls (o .going)
+
+  holds : {calls : List Call} → Onward calls → together (run w₀ calls .campaign) (run w₀ calls .store) (run w₀ calls .sums) ≡ true
+  holds o = holds-together _ _ _ .1 (ever o .holds)
 
   -- the two runs say the same of every other day
   record Alike (a b : List Call) : Type 0 where
+    pub onward-a : Onward a
+    pub onward-b : Onward b
     pub others : (e : ℕ) → Day e → (e ≡ d → ⊥) → made w₀ a e ≡ made w₀ b e
     pub hears : (e : ℕ) → Day e → (e ≡ d → ⊥) → heard w₀ a e ≡ heard w₀ b e
     pub mine : made w₀ a d ≡ standing
@@ -120,14 +132,14 @@ module _ (c : Campaign) (N taps C : ℕ) (store sums : List ℤ) (begin : startO
 
   module _ {a b : List Call} (s : Alike a b) where
     campaign-a : Campaign
-    campaign-a = run (begun N taps C store sums) a .campaign
+    campaign-a = run w₀ a .campaign
 
     campaign-b : Campaign
-    campaign-b = run (begun N taps C store sums) b .campaign
+    campaign-b = run w₀ b .campaign
 
     same-state : (e : ℕ) → Day e → (e ≡ d → ⊥) → state campaign-a e ≡ state campaign-b e
     unfolding campaign-a campaign-b
-    same-state e p n = ever a .days e p ∙ s .others e p n ∙ sym (ever b .days e p)
+    same-state e p n = ever (s .onward-a) .days e p ∙ s .others e p n ∙ sym (ever (s .onward-b) .days e p)
 
     -- one day more stands with the entry
     one-more : daysIn campaign-a standing ≡ suc (daysIn campaign-b standing)
@@ -136,25 +148,25 @@ module _ (c : Campaign) (N taps C : ℕ) (store sums : List ℤ) (begin : startO
         let x : d - 1 + 1 ≡ d = omega (arith, r .first) in
         let t = total-changed 366 (d - 1) (λ i. cond (stands campaign-b (i + 1)) 1 0) (λ i. cond (stands campaign-a (i + 1)) 1 0) (omega (arith, r .first, r .last))
         (λ i l n. ap (λ q. cond (eqb q standing) 1 0) (same-state (i + 1) (day i l) (λ e. n (omega arith)))) in
-        let f : _≡_ {A = ℕ} (cond (stands campaign-a (d - 1 + 1)) 1 0) 1 = ap (λ q. cond {A = ℕ} q 1 0) (eq-eqb (state campaign-a (d - 1 + 1)) standing (ap (state campaign-a) x ∙ ever a .days d r ∙ s .mine)) in
-        let g : _≡_ {A = ℕ} (cond (stands campaign-b (d - 1 + 1)) 1 0) 0 = ap (λ q. cond {A = ℕ} q 1 0) (ne-eqb (state campaign-b (d - 1 + 1)) standing (λ e. s .none (sym (ever b .days d r) ∙ ap (state campaign-b) (sym x) ∙ e))) in
+        let f : _≡_ {A = ℕ} (cond (stands campaign-a (d - 1 + 1)) 1 0) 1 = ap (λ q. cond {A = ℕ} q 1 0) (eq-eqb (state campaign-a (d - 1 + 1)) standing (ap (state campaign-a) x ∙ ever (s .onward-a) .days d r ∙ s .mine)) in
+        let g : _≡_ {A = ℕ} (cond (stands campaign-b (d - 1 + 1)) 1 0) 0 = ap (λ q. cond {A = ℕ} q 1 0) (ne-eqb (state campaign-b (d - 1 + 1)) standing (λ e. s .none (sym (ever (s .onward-b) .days d r) ∙ ap (state campaign-b) (sym x) ∙ e))) in
         omega arith
 
     -- a call on another day is accepted in both or in neither
     same-entry : (e : ℕ) (z : List ℤ) → Day e → (e ≡ d → ⊥) → (answer (run w₀ a) (enter e z) ≡ 12 → ⊥) → answer (run w₀ a) (enter e z) ≡ answer (run w₀ b) (enter e z)
     unfolding campaign-a campaign-b
     same-entry e z p n twelve =
-        enter-answer (run w₀ a) (holds a) e z ∙ lists (first (early campaign-b e z)) refl ∙ sym (enter-answer (run w₀ b) (holds b) e z)
+        enter-answer (run w₀ a) (holds (s .onward-a)) e z ∙ lists (first (early campaign-b e z)) refl ∙ sym (enter-answer (run w₀ b) (holds (s .onward-b)) e z)
       where
         alike : early campaign-a e z ≡ early campaign-b e z
         alike =
             ap₂ (λ o q. (10, dayOut e) ∷ (5, lengthOff o z) ∷ (7, someOut (length z) (at z)) ∷ (11, eqb q standing) ∷ [])
-            (ever a .order ∙ sym (ever b .order)) (same-state e p n)
+            (ever (s .onward-a) .order ∙ ap (λ (x : Campaign). x .order) (s .onward-a .same ∙ sym (s .onward-b .same)) ∙ sym (ever (s .onward-b) .order)) (same-state e p n)
 
         room : eqb (daysIn campaign-b standing) (campaign-b .slots) ≡ false
         room =
             ne-eqb (daysIn campaign-b standing) (campaign-b .slots)
-            (λ q. omega (arith, one-more, standing-most campaign-a (ever a .holds .filed), ever a .slots, ever b .slots))
+            (λ q. omega (arith, one-more, standing-most campaign-a (ever (s .onward-a) .holds .filed), ever (s .onward-a) .slots, ap (λ (x : Campaign). x .slots) (s .onward-a .same ∙ sym (s .onward-b .same)), ever (s .onward-b) .slots))
 
         and-none : (k : Bool) → k && false ≡ false
         and-none true = refl
@@ -166,7 +178,7 @@ module _ (c : Campaign) (N taps C : ℕ) (store sums : List ℤ) (begin : startO
             go : (k : Bool) → keeps z && eqb (daysIn campaign-a standing) (campaign-a .slots) ≡ k → first ((12, k) ∷ []) ≡ 0
             go false g = refl
             go true g =
-                absurd (twelve (enter-answer (run w₀ a) (holds a) e z ∙ passed-first (early campaign-a e z) (full campaign-a z) tt (ap first alike ∙ q) ∙ ap (λ k. first ((12, k) ∷ [])) g))
+                absurd (twelve (enter-answer (run w₀ a) (holds (s .onward-a)) e z ∙ passed-first (early campaign-a e z) (full campaign-a z) tt (ap first alike ∙ q) ∙ ap (λ k. first ((12, k) ∷ [])) g))
 
         lists : (n : ℕ) → first (early campaign-b e z) ≡ n → first (early campaign-a e z ++ full campaign-a z) ≡ first (early campaign-b e z ++ full campaign-b z)
         lists zero q =
@@ -179,25 +191,26 @@ module _ (c : Campaign) (N taps C : ℕ) (store sums : List ℤ) (begin : startO
     same-withdrawal : (e : ℕ) → Day e → (e ≡ d → ⊥) → answer (run w₀ a) (withdraw e) ≡ answer (run w₀ b) (withdraw e)
     unfolding campaign-a campaign-b
     same-withdrawal e p n =
-        withdraw-answer (run w₀ a) (holds a) e
+        withdraw-answer (run w₀ a) (holds (s .onward-a)) e
         ∙ ap (λ q. first ((10, dayOut e) ∷ (13, not (eqb q standing)) ∷ [])) (same-state e p n)
-        ∙ sym (withdraw-answer (run w₀ b) (holds b) e)
+        ∙ sym (withdraw-answer (run w₀ b) (holds (s .onward-b)) e)
 
     -- so one call more keeps them alike
     module _ (call : Call) (other : names call d ≡ false) (twelve : answer (run w₀ a) call ≡ 12 → ⊥) where
       same-accepted : (e : ℕ) → Day e → (e ≡ d → ⊥) → names call e ≡ true → accepted (run w₀ a) call ≡ accepted (run w₀ b) call
-      same-accepted e p n t = ap (λ k. eqb k 0) (go call twelve t)
+      same-accepted e p n t = ap (λ k. eqb k 0) (go call other twelve t)
         where
-          go : (k : Call) → (answer (run w₀ a) k ≡ 12 → ⊥) → names k e ≡ true → answer (run w₀ a) k ≡ answer (run w₀ b) k
-          go (enter g z) h u =
+          go : (k : Call) → names k d ≡ false → (answer (run w₀ a) k ≡ 12 → ⊥) → names k e ≡ true → answer (run w₀ a) k ≡ answer (run w₀ b) k
+          go (start N taps C) o h u = absurd (subst T o tt)
+          go (enter g z) _ h u =
               let q = eqb-true g e u in
               same-entry g z (subst Day (sym q) p) (λ x. n (sym q ∙ x)) h
-          go (withdraw g) h u =
+          go (withdraw g) _ h u =
               let q = eqb-true g e u in
               same-withdrawal g (subst Day (sym q) p) (λ x. n (sym q ∙ x))
-          go counts h u = absurd (subst T (sym u) tt)
-          go (response x1 x2 x3 x4) h u = absurd (subst T (sym u) tt)
-          go (summary x1 x2) h u = absurd (subst T (sym u) tt)
+          go counts _ h u = absurd (subst T (sym u) tt)
+          go (response x1 x2 x3 x4) _ h u = absurd (subst T (sym u) tt)
+          go (summary x1 x2) _ h u = absurd (subst T (sym u) tt)
 
       -- what a call makes of a day, in both runs
       both : {A : Type 0} (e : ℕ) → Day e → (e ≡ d → ⊥) → (x u v : A) → u ≡ v
@@ -212,6 +225,8 @@ module _ (c : Campaign) (N taps C : ℕ) (store sums : List ℤ) (begin : startO
       unfolding made heard
       more-alike =
           record {
+            onward-a = further (s .onward-a) call (no-start call other);
+            onward-b = further (s .onward-b) call (no-start call other);
             others = λ e p n. both e p n (makes call) (made w₀ a e) (made w₀ b e) (s .others e p n);
             hears = λ e p n.
                 let q = s .hears e p n in
@@ -225,17 +240,19 @@ module _ (c : Campaign) (N taps C : ℕ) (store sums : List ℤ) (begin : startO
 
   module _ (entered-0 : answer (run w₀ cs) (enter d y) ≡ 0) (kept : makes (enter d y) ≡ standing) where
     not-standing : made w₀ cs d ≡ standing → ⊥
-    not-standing e = go (entering (run w₀ cs) d y (holds cs))
+    not-standing e = go (entering (run w₀ cs) d y (holds here))
       where
         go : Entering (run w₀ cs) d y (enterOutcome (run w₀ cs .campaign) (run w₀ cs .store) (run w₀ cs .sums) d y) → ⊥
         go (steps.refused n g h i) = n entered-0
-        go (steps.aside q b v n l p f g h i) = f (ever cs .days d r ∙ e)
-        go (steps.kept k b v p n l f long good g h i) = n (ever cs .days d r ∙ e)
+        go (steps.aside q b v n l p f g h i) = f (ever here .days d r ∙ e)
+        go (steps.kept k b v p n l f long good g h i) = n (ever here .days d r ∙ e)
 
     at-entry : Alike (enter d y ∷ cs) cs
     unfolding made heard
     at-entry =
         record {
+          onward-a = further here (enter d y) refl;
+          onward-b = here;
           others = λ e p n. other-day e n (makes (enter d y)) (made w₀ cs e);
           hears = λ e p n. other-day e n y (heard w₀ cs e);
           mine = ap₂ (λ k o. cond (k && o) (makes (enter d y)) (made w₀ cs d)) (eq-eqb d d refl) (eq-eqb (answer (run w₀ cs) (enter d y)) 0 entered-0) ∙ kept;
@@ -245,26 +262,29 @@ module _ (c : Campaign) (N taps C : ℕ) (store sums : List ℤ) (begin : startO
         other-day : {A : Type 0} (e : ℕ) → (e ≡ d → ⊥) → (x u : A) → cond (eqb d e && accepted (run w₀ cs) (enter d y)) x u ≡ u
         other-day e n x u = ap (λ k. cond (k && accepted (run w₀ cs) (enter d y)) x u) (ne-eqb d e (λ q. n (sym q)))
 
-    alike : (between : List Call) → Between between → Alike (with-it between) (without-it between)
-    unfolding Between
+    alike : (between : List Call) → Elsewhere w₀ d (enter d y ∷ cs) between → Alike (with-it between) (without-it between)
+    unfolding Elsewhere
     alike [] b = at-entry
     alike (call ∷ between) b = more-alike (alike between (b .2)) call (b .0) (b .1)
 
-    pub as-if : (between : List Call) → Between between → (answer (run w₀ (with-it between)) (withdraw d) ≡ 0)
-        × AsIf (P N) (run w₀ (withdraw d ∷ with-it between)) (run w₀ (without-it between))
+    pub as-if : (between : List Call) → Elsewhere w₀ d (enter d y ∷ cs) between → (answer (run w₀ (with-it between)) (withdraw d) ≡ 0)
+        × AsIf (P (begun w₀ cs .order)) (run w₀ (withdraw d ∷ with-it between)) (run w₀ (without-it between))
     unfolding made heard
     as-if between b = (answered-0, record { sums = same-sums; days = same-days })
       where
         s : Alike (with-it between) (without-it between)
         s = alike between b
 
+        after-all : Onward (withdraw d ∷ with-it between)
+        after-all = further (s .onward-a) (withdraw d) refl
+
         stands-still : state (run w₀ (with-it between) .campaign) d ≡ standing
-        stands-still = ever (with-it between) .days d r ∙ s .mine
+        stands-still = ever (s .onward-a) .days d r ∙ s .mine
 
         answered-0 : answer (run w₀ (with-it between)) (withdraw d) ≡ 0
         answered-0 =
             ap (λ o. o .0 .answer)
-            (withdraw-accepted (run w₀ (with-it between) .campaign) (run w₀ (with-it between) .store) (run w₀ (with-it between) .sums) (holds (with-it between)) d r stands-still)
+            (withdraw-accepted (run w₀ (with-it between) .campaign) (run w₀ (with-it between) .store) (run w₀ (with-it between) .sums) (holds (s .onward-a)) d r stands-still)
 
         -- after the withdrawal the entry's day does not stand, and the others are as before it
         gone : made w₀ (withdraw d ∷ with-it between) d ≡ withdrawn
@@ -274,11 +294,7 @@ module _ (c : Campaign) (N taps C : ℕ) (store sums : List ℤ) (begin : startO
         before e n = ap (λ k. cond (k && accepted (run w₀ (with-it between)) (withdraw d)) withdrawn (made w₀ (with-it between) e)) (ne-eqb d e (λ q. n (sym q)))
 
         unheard : (e : ℕ) → heard w₀ (withdraw d ∷ with-it between) e ≡ heard w₀ (with-it between) e
-        unheard e = either (eqb d e && accepted (run w₀ (with-it between)) (withdraw d))
-          where
-            either : (k : Bool) → cond k (heard w₀ (with-it between) e) (heard w₀ (with-it between) e) ≡ heard w₀ (with-it between) e
-            either true = refl
-            either false = refl
+        unheard e = if-alike (eqb d e && accepted (run w₀ (with-it between)) (withdraw d)) (heard w₀ (with-it between) e)
 
         -- a day's part in the sums, in both runs
         part : (i j : ℕ) → i < 366
@@ -292,21 +308,21 @@ module _ (c : Campaign) (N taps C : ℕ) (store sums : List ℤ) (begin : startO
               ap₂ (λ q z. cond (eqb q standing) (at z j) (pos 0)) (before (i + 1) e ∙ s .others (i + 1) (day i l) e) (unheard (i + 1) ∙ s .hears (i + 1) (day i l) e)
         ]
 
-        same-sums : (j : ℕ) → j < P N → at (run w₀ (withdraw d ∷ with-it between) .sums) j ≡ at (run w₀ (without-it between) .sums) j
+        same-sums : (j : ℕ) → j < P (begun w₀ cs .order) → at (run w₀ (withdraw d ∷ with-it between) .sums) j ≡ at (run w₀ (without-it between) .sums) j
         same-sums j l =
-            sums-are c N taps C store sums begin (withdraw d ∷ with-it between) j l
+            sums-are w₀ (withdraw d ∷ with-it between) (after-all .going) j (subst (λ (x : Campaign). j < P (x .order)) (sym (after-all .same)) l)
             ∙ sum-ext 366 (λ i h. part i j h)
-            ∙ sym (sums-are c N taps C store sums begin (without-it between) j l)
+            ∙ sym (sums-are w₀ (without-it between) (s .onward-b .going) j (subst (λ (x : Campaign). j < P (x .order)) (sym (s .onward-b .same)) l))
 
         same-days : (e : ℕ) → Day e → stands (run w₀ (withdraw d ∷ with-it between) .campaign) e ≡ stands (run w₀ (without-it between) .campaign) e
         same-days e p = elim (ℕ-discrete e d) [
           | yes q ↦
-              ap (λ k. eqb k standing) (ever (withdraw d ∷ with-it between) .days e p ∙ ap (made w₀ (withdraw d ∷ with-it between)) q ∙ gone)
-              ∙ sym (ne-eqb (state (run w₀ (without-it between) .campaign) e) standing (λ k. s .none (ap (made w₀ (without-it between)) (sym q) ∙ sym (ever (without-it between) .days e p) ∙ k)))
-          | no q ↦ ap (λ k. eqb k standing) (ever (withdraw d ∷ with-it between) .days e p ∙ before e q ∙ s .others e p q ∙ sym (ever (without-it between) .days e p))
+              ap (λ k. eqb k standing) (ever after-all .days e p ∙ ap (made w₀ (withdraw d ∷ with-it between)) q ∙ gone)
+              ∙ sym (ne-eqb (state (run w₀ (without-it between) .campaign) e) standing (λ k. s .none (ap (made w₀ (without-it between)) (sym q) ∙ sym (ever (s .onward-b) .days e p) ∙ k)))
+          | no q ↦ ap (λ k. eqb k standing) (ever after-all .days e p ∙ before e q ∙ s .others e p q ∙ sym (ever (s .onward-b) .days e p))
         ]
 
   -- ---- and at once
 
   pub at-once : answer (run w₀ cs) (enter d y) ≡ 0 → makes (enter d y) ≡ standing → Undone (run w₀ cs) (after (after (run w₀ cs) (enter d y)) (withdraw d))
-  at-once = undone (run w₀ cs) (ever cs .sized) (holds cs) d y
+  at-once = undone (run w₀ cs) (ever here .sized) (holds here) d y

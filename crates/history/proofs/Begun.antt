@@ -9,35 +9,14 @@ use borrow.Author.Tests.{eq-eqb}
 use lib.IntN.{ℤ, pos}
 use lib.ListN.{getD, replicate, length-replicate}
 use Rattle.sums.specs.Lists.{table}
-use Rattle.sums.proofs.First.{accepts}
 use Rattle.sums.proofs.Sum.{sum-ext, sum-zero}
 use Rattle.sums.proofs.Tables.{at-put, length-put, length-table}
 use Rattle.register.specs.Register.{P}
 use Rattle.response.specs.Calls.{clearedWide}
 use Rattle.records.specs.Record.{unseen, standing, state, slot, sample, usedTotal, fresh}
-use Rattle.campaign.specs.Calls.{startChecks, startOutcome}
-use Rattle.history.specs.Run.{World}
-use Rattle.records.specs.declared.Campaign.{Campaign}
-use Rattle.campaign.proofs.Passing.{Begins, begins}
+use Rattle.campaign.proofs.Passing.{Begins}
 use Rattle.records.proofs.Holding.{Together}
 use Rattle.records.proofs.Refiling.{Sized}
-use Rattle.history.proofs.Steps.{outcome-cases}
-
--- the world that an accepted start hands back
-abbrev pub begun : ℕ → ℕ → ℕ → List ℤ → List ℤ → World
-begun N taps C store sums = record { campaign = fresh N taps C; store = clearedWide (C * P N) store; sums = clearedWide (P N) sums }
-
--- a start that answers 0
-pub started : (c : Campaign) (N taps C : ℕ) (store sums : List ℤ) → startOutcome c N taps C store sums .0 .answer ≡ 0
-    → Begins N taps C store sums × (startOutcome c N taps C store sums ≡ (record { answer = 0; campaign = fresh N taps C }, clearedWide (C * P N) store, clearedWide (P N) sums))
-unfolding startOutcome
-started c N taps C store sums =
-    outcome-cases (startChecks N taps C store sums) tt (λ n. (record { answer = n; campaign = c }, store, sums))
-    (record { answer = 0; campaign = fresh N taps C }, clearedWide (C * P N) store, clearedWide (P N) sums)
-    (λ o. o .0 .answer ≡ 0 → Begins N taps C store sums × (o ≡ (record { answer = 0; campaign = fresh N taps C }, clearedWide (C * P N) store, clearedWide (P N) sums)))
-    (λ n h _ z. absurd (h z)) (λ p _. (begins N taps C store sums (accepts (startChecks N taps C store sums) p), refl))
-
--- ---- it holds together
 
 replicated : (n i : ℕ) → getD {A = ℕ} (replicate n 0) i 0 ≡ 0
 replicated zero i = refl

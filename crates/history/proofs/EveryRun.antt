@@ -1,5 +1,6 @@
--- The third demand: after any run of calls each day's state, the sums and the answer are exactly what the history says. For every order,
--- taps, slot count, lent memory and list of calls `cs`, the latest first, refused calls included, from a start that was accepted. Assumes nothing.
+-- The third demand: after any run of calls each day's state, the sums and the answer are exactly what the history says. For every world
+-- `w₀`, a record and lent memory whatever they hold, and every list of calls `cs`, the latest first, refused calls included, among which a start was
+-- accepted. The order and the taps are those of the last such start. Assumes nothing.
 use mathlib.Core.Path.{_≡_, sym, ap, ap₂, subst, _∙_}
 use mathlib.Core.Bool.{true, cond}
 use mathlib.Core.List.{List}
@@ -14,36 +15,44 @@ use Rattle.sums.specs.Lists.{at, many}
 use Rattle.sums.proofs.Everywhere.{many-ext}
 use Rattle.sums.proofs.Sum.{sum-ext, sum-scale}
 use Rattle.sums.proofs.Tables.{at-put}
-use Rattle.register.specs.Register.{P, wave}
+use Rattle.register.specs.Register.{P, wave, Accepted}
 use Rattle.register.proofs.Judged.{generator}
 use Rattle.response.specs.Response.{prediction}
 use Rattle.response.specs.Response as formula
 use Rattle.response.proofs.Linear.{response-ext, response-zero, response-sum}
 use Rattle.response.proofs.Register.{predicted}
 use Rattle.records.specs.Record.{unseen, standing, overloaded, dead, withdrawn, state, stands, daysIn, slot, free, together}
-use Rattle.campaign.specs.Calls.{startOutcome}
 use Rattle.trend.specs.Calls.{countsOutcome, responseOutcome, worked}
-use Rattle.history.specs.Run.{World, Call, answer, run, made, heard}
-use Rattle.records.specs.declared.Campaign.{Campaign}
+use Rattle.history.specs.Run.{World, Call, answer, run, underWay, begun, made, heard}
 use Rattle.trend.specs.declared.Counts.the-variants.{Counted}
 use Rattle.trend.proofs.Bounds.{counts-total}
 use Rattle.records.proofs.Holding.{holds-together}
 use Rattle.records.proofs.Tallying.{slots-as-days}
 use Rattle.records.proofs.Refiling.{Day, day, many-some}
-use Rattle.history.proofs.Begun.{begun, started}
 use Rattle.history.proofs.History.{SaysRun, says}
 use Rattle.history.proofs.Answers.{never-fifteen, RoomFor, answers}
 
-module _ (c : Campaign) (N taps C : ℕ) (store sums : List ℤ) (accepted : startOutcome c N taps C store sums .0 .answer ≡ 0) (cs : List Call) where
-  -- the world that the start handed back, and the one after the run
-  abbrev pub w₀ : World
-  w₀ = begun N taps C store sums
-
+module _ (w₀ : World) (cs : List Call) (started : underWay w₀ cs ≡ true) where
+  -- the world after the run, and the campaign's order and taps
   abbrev pub w : World
   w = run w₀ cs
 
-  history : SaysRun (begun N taps C store sums) cs
-  history = says N taps C store sums (started c N taps C store sums accepted .0) cs
+  abbrev pub N : ℕ
+  N = begun w₀ cs .order
+
+  abbrev pub taps : ℕ
+  taps = begun w₀ cs .taps
+
+  history : SaysRun w₀ cs
+  history = says w₀ cs started
+
+  maximal : Accepted (begun w₀ cs .order) (begun w₀ cs .taps)
+  maximal = subst (λ t. Accepted (begun w₀ cs .order) t) (history .taps) (subst (λ n. Accepted n (run w₀ cs .campaign .taps)) (history .order) (history .holds .filed .accepted))
+
+  -- ---- 0. The record is that of the last accepted start: its order, taps and slot count.
+
+  pub same-order : (w .campaign .order ≡ N) × (w .campaign .taps ≡ taps) × (w .campaign .slots ≡ begun w₀ cs .slots)
+  same-order = (history .order, history .taps, history .slots)
 
   -- ---- 1. The record holds together, so no call of the run answers 15.
 
@@ -59,7 +68,7 @@ module _ (c : Campaign) (N taps C : ℕ) (store sums : List ℤ) (accepted : sta
   each-day = history .days
 
   -- so the counts are those of the history, and total 366
-  pub daysMade : ℕ → ℕ
+  unfoldable pub daysMade : ℕ → ℕ
   daysMade q = many 366 (λ i. eqb (made w₀ cs (i + 1)) q)
 
   days-are : (q : ℕ) → daysIn (w .campaign) q ≡ daysMade q
@@ -107,7 +116,7 @@ module _ (c : Campaign) (N taps C : ℕ) (store sums : List ℤ) (accepted : sta
   module _ (h : ℕ → ℕ → ℤ)
       (convolved : (d : ℕ) → Day d → made w₀ cs d ≡ standing → (j : ℕ) → j < P N → at (heard w₀ cs d) j ≡ prediction (P N) (wave N taps) (h d) j) where
     -- the sum of the responses of the days standing
-    pub total : ℕ → ℤ
+    unfoldable pub total : ℕ → ℤ
     total k = sum 366 (λ i. cond (eqb (made w₀ cs (i + 1)) standing) (h (i + 1) k) (pos 0))
 
     one-day : (i k : ℕ) → i < 366 → k < P N
@@ -116,7 +125,7 @@ module _ (c : Campaign) (N taps C : ℕ) (store sums : List ℤ) (accepted : sta
     one-day i k l m = elim (ℕ-discrete (made w₀ cs (i + 1)) standing) [
       | yes e ↦ rw (eq-eqb (made w₀ cs (i + 1)) standing e)
           (response-ext (P N) (wave N taps) (convolved (i + 1) (day i l) e) k
-          ∙ predicted N taps (generator (started c N taps C store sums accepted .0 .accepted)) (h (i + 1)) k m)
+          ∙ predicted N taps (generator maximal) (h (i + 1)) k m)
       | no e ↦ rw (ne-eqb (made w₀ cs (i + 1)) standing e) (response-zero (P N) (wave N taps) k ∙ sym (*ℤ-zero (pos (suc (P N)))))
     ]
 

@@ -1,29 +1,31 @@
--- After any run of calls from an accepted start the record holds together, each day's state is what the history says, and each slot in use
--- holds the last recording accepted for its day. Assumes nothing.
-use mathlib.Core.Path.{_≡_, refl, sym, ap, _∙_}
-use mathlib.Core.Bool.{Bool, true, false, cond, _&&_}
+-- After any run of calls with an accepted start in it the record holds together, its order, taps and slot count are those of the last such start,
+-- each day's state is what the history says, and each slot in use holds the last recording accepted for its day. Assumes nothing.
+use mathlib.Core.Path.{_≡_, refl, sym, ap, subst, _∙_}
+use mathlib.Core.Bool.{Bool, true, false, cond, _&&_, _||_, or-false}
 use mathlib.Core.List.{List, [], _∷_}
-use Prim.Native.Nat.{ℕ, _≤_, _<_}
+use mathlib.Core.Logic.{_⊎_, inl, inr}
+use Prim.Native.Nat.{ℕ, _*_, _≤_, _<_}
 use native.Mathlib.Decide.{ℕ-discrete}
 use native.Mathlib.Omega.{arith}
-use borrow.Author.Tests.{eq-eqb, ne-eqb}
-use lib.Dec.{eqb}
+use borrow.Author.Tests.{eq-eqb, ne-eqb, eqb-true}
+use lib.Dec.{T, eqb}
 use lib.IntN.{ℤ, pos, _+ℤ_, _-ℤ_}
 use lib.ListN.{length}
 use Rattle.sums.specs.Lists.{at, table, put, putAt}
 use Rattle.sums.proofs.Tables.{length-table}
 use Rattle.register.specs.Register.{P}
-use Rattle.records.specs.Record.{standing, withdrawn, state, slot, base, sample, inside, together, marked, filed}
-use Rattle.campaign.specs.Calls.{enterOutcome, withdrawOutcome}
-use Rattle.history.specs.Run.{World, Call, enter, withdraw, counts, response, summary, after, answer, accepted, run, names, makes, made, recording, heard}
+use Rattle.response.specs.Calls.{clearedWide}
+use Rattle.records.specs.Record.{unseen, standing, withdrawn, state, slot, base, sample, inside, together, fresh, marked, filed}
+use Rattle.campaign.specs.Calls.{startOutcome, enterOutcome, withdrawOutcome}
+use Rattle.history.specs.Run.{World, Call, start, enter, withdraw, counts, response, summary, after, answer, accepted, run, starts, underWay, begins, begun, names, makes, made, recording, heard}
 use Rattle.records.specs.declared.Campaign.{Campaign}
 use Rattle.records.proofs.Holding.{Together, holds-together}
 use Rattle.records.proofs.Tallying.{no-slot}
 use Rattle.records.proofs.Refiling.{Sized, Day, sized-filed, sized-marked, state-same, state-other, slot-same, slot-other}
 use Rattle.history.proofs.Memory.{sample-same, sample-other, together-kept, together-withdrawn, together-marked}
 use Rattle.campaign.proofs.Passing.{Begins}
-use Rattle.history.proofs.Begun.{begun, begun-sized, begun-state, begun-slot, begun-together}
-use Rattle.history.proofs.Steps.{Entering, entering, Withdrawing, withdrawing}
+use Rattle.history.proofs.Begun.{begun-sized, begun-state, begun-slot, begun-together}
+use Rattle.history.proofs.Steps.{Starting, starting, Entering, entering, Withdrawing, withdrawing}
 use Rattle.history.proofs.Steps as steps
 
 -- a record and its memory that say what a history says, of the campaign c₀
@@ -36,14 +38,14 @@ pub record Says (c₀ c : Campaign) (store sums : List ℤ) (states : ℕ → �
   pub days : (d : ℕ) → Day d → state c d ≡ states d
   pub slot-hears : (s : ℕ) → s < c .slots → (slot c s ≡ 0 → ⊥) → (j : ℕ) → j < P (c .order) → sample c store s j ≡ at (hears (slot c s)) j
 
--- only the days of the year count
-says-ext : {c₀ c : Campaign} {store sums : List ℤ} {f g : ℕ → ℕ} {h k : ℕ → List ℤ} → ((d : ℕ) → f d ≡ g d) → ((d : ℕ) → h d ≡ k d)
-    → Says c₀ c store sums f h → Says c₀ c store sums g k
-says-ext {c = c} e q s =
+-- the same campaign and the same history
+says-ext : {c₀ c₁ c : Campaign} {store sums : List ℤ} {f g : ℕ → ℕ} {h k : ℕ → List ℤ} → c₀ ≡ c₁ → ((d : ℕ) → f d ≡ g d) → ((d : ℕ) → h d ≡ k d)
+    → Says c₀ c store sums f h → Says c₁ c store sums g k
+says-ext {c = c} t e q s =
     record {
-      order = s .order;
-      taps = s .taps;
-      slots = s .slots;
+      order = s .order ∙ ap (λ (x : Campaign). x .order) t;
+      taps = s .taps ∙ ap (λ (x : Campaign). x .taps) t;
+      slots = s .slots ∙ ap (λ (x : Campaign). x .slots) t;
       sized = s .sized;
       holds = s .holds;
       days = λ d r. s .days d r ∙ e d;
@@ -146,74 +148,37 @@ if-accepted : {A : Type 0} (b a : Bool) (x y : A) → a ≡ true → cond (b && 
 if-accepted true a x y e = ap (λ z. cond z x y) e
 if-accepted false a x y e = refl
 
-if-alike : {A : Type 0} (b : Bool) (x : A) → cond b x x ≡ x
+-- whatever the test
+pub if-alike : {A : Type 0} (b : Bool) (x : A) → cond b x x ≡ x
 if-alike true x = refl
 if-alike false x = refl
 
 -- the world after a run says what its history says
 abbrev pub SaysRun : World → List Call → Type 0
-SaysRun w cs = Says (w .campaign) (run w cs .campaign) (run w cs .store) (run w cs .sums) (made w cs) (heard w cs)
+SaysRun w cs = Says (begun w cs) (run w cs .campaign) (run w cs .store) (run w cs .sums) (made w cs) (heard w cs)
 
 -- a refused call leaves everything
 says-refused : (w : World) (cs : List Call) (call : Call) → SaysRun w cs → accepted (run w cs) call ≡ false → after (run w cs) call ≡ run w cs → SaysRun w (call ∷ cs)
-unfolding run made heard
+unfolding run begun made heard
 says-refused w cs call s a e =
     rw e
-    (says-ext (λ d. sym (if-refused (names call d) (accepted (run w cs) call) (makes call) (made w cs d) a))
+    (says-ext (ap (λ b. cond b (begins call (begun w cs)) (begun w cs)) (sym a))
+    (λ d. sym (if-refused (names call d) (accepted (run w cs) call) (makes call) (made w cs d) a))
     (λ d. sym (if-refused (names call d) (accepted (run w cs) call) (recording call (heard w cs d)) (heard w cs d) a)) s)
 
 -- a call that hands no record back names no day
-says-asked : (w : World) (cs : List Call) (call : Call) → SaysRun w cs → ((d : ℕ) → names call d ≡ false) → after (run w cs) call ≡ run w cs → SaysRun w (call ∷ cs)
-unfolding run made heard
-says-asked w cs call s n e =
+says-asked : (w : World) (cs : List Call) (call : Call) → SaysRun w cs → ((d : ℕ) → names call d ≡ false) → ((c : Campaign) → begins call c ≡ c) → after (run w cs) call ≡ run w cs → SaysRun w (call ∷ cs)
+unfolding run begun made heard
+says-asked w cs call s n k e =
     rw e
-    (says-ext (λ d. sym (ap (λ b. cond (b && accepted (run w cs) call) (makes call) (made w cs d)) (n d)))
+    (says-ext (sym (ap (λ c. cond (accepted (run w cs) call) c (begun w cs)) (k (begun w cs)) ∙ if-alike (accepted (run w cs) call) (begun w cs)))
+    (λ d. sym (ap (λ b. cond (b && accepted (run w cs) call) (makes call) (made w cs d)) (n d)))
     (λ d. sym (ap (λ b. cond (b && accepted (run w cs) call) (recording call (heard w cs d)) (heard w cs d)) (n d))) s)
 
-module _ (w : World) (cs : List Call) (s : SaysRun w cs) where
-  now : World
-  now = run w cs
-
-  holding : together (run w cs .campaign) (run w cs .store) (run w cs .sums) ≡ true
-  holding = holds-together (run w cs .campaign) (run w cs .store) (run w cs .sums) .1 (s .holds)
-
-  says-entered : (d : ℕ) (y : List ℤ) → Entering (run w cs) d y (enterOutcome (run w cs .campaign) (run w cs .store) (run w cs .sums) d y) → SaysRun w (enter d y ∷ cs)
-  unfolding run made heard
-  says-entered d y (steps.refused n e g i) = says-refused w cs (enter d y) s (ne-eqb (answer (run w cs) (enter d y)) 0 n) (rw (e, g, i))
-  says-entered d y (steps.aside q a m n b r v e g i) =
-      rw (e, g, i)
-      (says-ext
-      (λ x. sym (if-accepted (eqb d x) (accepted (run w cs) (enter d y)) (makes (enter d y)) (made w cs x) (eq-eqb (answer (run w cs) (enter d y)) 0 a) ∙ ap (λ z. cond (eqb d x) z (made w cs x)) m))
-      (λ x. sym (if-accepted (eqb d x) (accepted (run w cs) (enter d y)) y (heard w cs x) (eq-eqb (answer (run w cs) (enter d y)) 0 a)))
-      (says-aside s d q y r v n b))
-  says-entered d y (steps.kept k a m r v l f long good e g i) =
-      rw (e, g, i)
-      (says-ext
-      (λ x. sym (if-accepted (eqb d x) (accepted (run w cs) (enter d y)) (makes (enter d y)) (made w cs x) (eq-eqb (answer (run w cs) (enter d y)) 0 a) ∙ ap (λ z. cond (eqb d x) z (made w cs x)) m))
-      (λ x. sym (if-accepted (eqb d x) (accepted (run w cs) (enter d y)) y (heard w cs x) (eq-eqb (answer (run w cs) (enter d y)) 0 a)))
-      (says-kept s d k y r v l f long good))
-
-  says-freed : (d : ℕ) → Withdrawing (run w cs) d (withdrawOutcome (run w cs .campaign) (run w cs .store) (run w cs .sums) d) → SaysRun w (withdraw d ∷ cs)
-  unfolding run made heard
-  says-freed d (steps.refused n e g i) = says-refused w cs (withdraw d) s (ne-eqb (answer (run w cs) (withdraw d)) 0 n) (rw (e, g, i))
-  says-freed d (steps.freed k a r v l f e g i) =
-      rw (e, g, i)
-      (says-ext
-      (λ x. sym (if-accepted (eqb d x) (accepted (run w cs) (withdraw d)) withdrawn (made w cs x) (eq-eqb (answer (run w cs) (withdraw d)) 0 a)))
-      (λ x. sym (if-alike (eqb d x && accepted (run w cs) (withdraw d)) (heard w cs x)))
-      (says-withdrawn s d k r v l f))
-
-  pub says-after : (call : Call) → SaysRun w (call ∷ cs)
-  says-after (enter d y) = says-entered d y (entering (run w cs) d y holding)
-  says-after (withdraw d) = says-freed d (withdrawing (run w cs) d holding)
-  says-after counts = says-asked w cs counts s (λ d. refl) refl
-  says-after (response r mean room tags) = says-asked w cs (response r mean room tags) s (λ d. refl) refl
-  says-after (summary room tags) = says-asked w cs (summary room tags) s (λ d. refl) refl
-
--- every run
-pub says : (N taps C : ℕ) (store sums : List ℤ) → Begins N taps C store sums → (cs : List Call) → SaysRun (begun N taps C store sums) cs
-unfolding run made heard
-says N taps C store sums b [] =
+-- an accepted start, whatever came before it
+anew : (N taps C : ℕ) (store sums : List ℤ) → Begins N taps C store sums
+    → Says (fresh N taps C) (fresh N taps C) (clearedWide (C * P N) store) (clearedWide (P N) sums) (λ d. unseen) (λ d. [])
+anew N taps C store sums b =
     record {
       order = refl;
       taps = refl;
@@ -223,4 +188,75 @@ says N taps C store sums b [] =
       days = λ d r. begun-state N taps C d;
       slot-hears = λ s l u. absurd (u (begun-slot N taps C s));
     }
-says N taps C store sums b (call ∷ cs) = says-after (begun N taps C store sums) cs (says N taps C store sums b cs) call
+
+says-started : (w : World) (cs : List Call) (N taps C : ℕ) → (SaysRun w cs ⊎ (accepted (run w cs) (start N taps C) ≡ true))
+    → Starting (run w cs) N taps C (startOutcome (run w cs .campaign) N taps C (run w cs .store) (run w cs .sums)) → SaysRun w (start N taps C ∷ cs)
+unfolding run begun made heard
+says-started w cs N taps C (inl s) (steps.refused n e g i) = says-refused w cs (start N taps C) s (ne-eqb (answer (run w cs) (start N taps C)) 0 n) (rw (e, g, i))
+says-started w cs N taps C (inr a) (steps.refused n e g i) = absurd (n (eqb-true (answer (run w cs) (start N taps C)) 0 a))
+says-started w cs N taps C p (steps.began a b e g i) =
+    let t = eq-eqb (answer (run w cs) (start N taps C)) 0 a in
+    rw (e, g, i)
+    (says-ext (ap (λ b. cond b (fresh N taps C) (begun w cs)) (sym t))
+    (λ d. ap (λ b. cond b unseen (made w cs d)) (sym t))
+    (λ d. ap (λ b. cond b [] (heard w cs d)) (sym t))
+    (anew N taps C (run w cs .store) (run w cs .sums) b))
+
+module _ (w : World) (cs : List Call) (s : SaysRun w cs) where
+  now : World
+  now = run w cs
+
+  holding : together (run w cs .campaign) (run w cs .store) (run w cs .sums) ≡ true
+  holding = holds-together (run w cs .campaign) (run w cs .store) (run w cs .sums) .1 (s .holds)
+
+  says-entered : (d : ℕ) (y : List ℤ) → Entering (run w cs) d y (enterOutcome (run w cs .campaign) (run w cs .store) (run w cs .sums) d y) → SaysRun w (enter d y ∷ cs)
+  unfolding run begun made heard
+  says-entered d y (steps.refused n e g i) = says-refused w cs (enter d y) s (ne-eqb (answer (run w cs) (enter d y)) 0 n) (rw (e, g, i))
+  says-entered d y (steps.aside q a m n b r v e g i) =
+      rw (e, g, i)
+      (says-ext (sym (if-alike (accepted (run w cs) (enter d y)) (begun w cs)))
+      (λ x. sym (if-accepted (eqb d x) (accepted (run w cs) (enter d y)) (makes (enter d y)) (made w cs x) (eq-eqb (answer (run w cs) (enter d y)) 0 a) ∙ ap (λ z. cond (eqb d x) z (made w cs x)) m))
+      (λ x. sym (if-accepted (eqb d x) (accepted (run w cs) (enter d y)) y (heard w cs x) (eq-eqb (answer (run w cs) (enter d y)) 0 a)))
+      (says-aside s d q y r v n b))
+  says-entered d y (steps.kept k a m r v l f long good e g i) =
+      rw (e, g, i)
+      (says-ext (sym (if-alike (accepted (run w cs) (enter d y)) (begun w cs)))
+      (λ x. sym (if-accepted (eqb d x) (accepted (run w cs) (enter d y)) (makes (enter d y)) (made w cs x) (eq-eqb (answer (run w cs) (enter d y)) 0 a) ∙ ap (λ z. cond (eqb d x) z (made w cs x)) m))
+      (λ x. sym (if-accepted (eqb d x) (accepted (run w cs) (enter d y)) y (heard w cs x) (eq-eqb (answer (run w cs) (enter d y)) 0 a)))
+      (says-kept s d k y r v l f long good))
+
+  says-freed : (d : ℕ) → Withdrawing (run w cs) d (withdrawOutcome (run w cs .campaign) (run w cs .store) (run w cs .sums) d) → SaysRun w (withdraw d ∷ cs)
+  unfolding run begun made heard
+  says-freed d (steps.refused n e g i) = says-refused w cs (withdraw d) s (ne-eqb (answer (run w cs) (withdraw d)) 0 n) (rw (e, g, i))
+  says-freed d (steps.freed k a r v l f e g i) =
+      rw (e, g, i)
+      (says-ext (sym (if-alike (accepted (run w cs) (withdraw d)) (begun w cs)))
+      (λ x. sym (if-accepted (eqb d x) (accepted (run w cs) (withdraw d)) withdrawn (made w cs x) (eq-eqb (answer (run w cs) (withdraw d)) 0 a)))
+      (λ x. sym (if-alike (eqb d x && accepted (run w cs) (withdraw d)) (heard w cs x)))
+      (says-withdrawn s d k r v l f))
+
+  pub says-after : (call : Call) → SaysRun w (call ∷ cs)
+  says-after (start N taps C) = says-started w cs N taps C (inl s) (starting (run w cs) N taps C)
+  says-after (enter d y) = says-entered d y (entering (run w cs) d y holding)
+  says-after (withdraw d) = says-freed d (withdrawing (run w cs) d holding)
+  says-after counts = says-asked w cs counts s (λ d. refl) (λ c. refl) refl
+  says-after (response r mean room tags) = says-asked w cs (response r mean room tags) s (λ d. refl) (λ c. refl) refl
+  says-after (summary room tags) = says-asked w cs (summary room tags) s (λ d. refl) (λ c. refl) refl
+
+-- every run, from its first accepted start on
+pub says : (w : World) (cs : List Call) → underWay w cs ≡ true → SaysRun w cs
+unfolding underWay
+says w [] u = absurd (subst T (sym u) tt)
+says w (call ∷ cs) u = go (λ e. says w cs e) (underWay w cs) refl
+  where
+    first-of : (k : Call) → starts k && accepted (run w cs) k ≡ true → SaysRun w (k ∷ cs)
+    first-of (start N taps C) e = says-started w cs N taps C (inr e) (starting (run w cs) N taps C)
+    first-of (enter d y) e = absurd (subst T (sym e) tt)
+    first-of (withdraw d) e = absurd (subst T (sym e) tt)
+    first-of counts e = absurd (subst T (sym e) tt)
+    first-of (response r mean room tags) e = absurd (subst T (sym e) tt)
+    first-of (summary room tags) e = absurd (subst T (sym e) tt)
+
+    go : (underWay w cs ≡ true → SaysRun w cs) → (b : Bool) → underWay w cs ≡ b → SaysRun w (call ∷ cs)
+    go before true e = says-after w cs (before e) call
+    go before false e = first-of call (sym (or-false (starts call && accepted (run w cs) call)) ∙ sym (ap (λ b. (starts call && accepted (run w cs) call) || b) e) ∙ u)

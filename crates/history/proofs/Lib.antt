@@ -3,6 +3,7 @@ pub mod Memory
 pub mod Steps
 pub mod Begun
 pub mod History
+pub mod UnderWay
 pub mod Answers
 pub mod EveryRun
 pub mod Undone

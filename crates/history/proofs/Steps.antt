@@ -1,9 +1,9 @@
--- What an entry and a withdrawal come to where the record holds together, case by case; and the number that each answers as one list of
--- checks. Assumes nothing.
+-- What a start comes to, and an entry and a withdrawal where the record holds together, case by case; and the number that each answers as one
+-- list of checks. Assumes nothing.
 use mathlib.Core.Path.{_≡_, refl, sym, ap, subst, _∙_}
 use mathlib.Core.Bool.{Bool, true, false, cond}
 use mathlib.Core.List.{List, [], _∷_}
-use Prim.Native.Nat.{ℕ, zero, suc, _≤_, _<_}
+use Prim.Native.Nat.{ℕ, zero, suc, _*_, _≤_, _<_}
 use native.Mathlib.Omega.{arith}
 use borrow.Author.Tests.{lt-ltb, ltb-false, eqb-true, eqb-false, not-false}
 use lib.Dec.{T, eqb, ltb}
@@ -13,19 +13,20 @@ use lib.Signed.{ltZ}
 use Rattle.sums.specs.Lists.{at, table, put, putAt}
 use Rattle.sums.specs.Refusals.{first, answered, outcome}
 use Rattle.sums.proofs.Everywhere.{both-true}
-use Rattle.sums.proofs.First.{numbered, passes, Passed, or-false}
+use Rattle.sums.proofs.First.{numbered, passes, accepts, Passed, or-false}
 use Rattle.sums.proofs.Seek.{seek-first}
 use Rattle.sums.proofs.Somewhere.{none-of}
 use Rattle.register.specs.Register.{P}
-use Rattle.response.specs.Calls.{sampleOut, someOut}
-use Rattle.records.specs.Record.{standing, overloaded, dead, withdrawn, state, daysIn, slot, base, sample, inside, eqZ, together, marked, filed}
-use Rattle.campaign.specs.Calls.{enterChecks, withdrawChecks, rail, railPlace, still, entered, lowestFree, slotOfDay, keptOutcome, judgedOutcome, withdrawnOutcome, enterOutcome, withdrawOutcome, verdictNumber}
+use Rattle.response.specs.Calls.{sampleOut, someOut, clearedWide}
+use Rattle.records.specs.Record.{standing, overloaded, dead, withdrawn, state, daysIn, slot, base, sample, inside, eqZ, together, fresh, marked, filed}
+use Rattle.campaign.specs.Calls.{startChecks, startOutcome, enterChecks, withdrawChecks, rail, railPlace, still, entered, lowestFree, slotOfDay, keptOutcome, judgedOutcome, withdrawnOutcome, enterOutcome, withdrawOutcome, verdictNumber}
 use Rattle.history.specs.Run.{World}
 use Rattle.records.specs.declared.Campaign.{Campaign}
+use Rattle.campaign.specs.declared.Started.{Started}
 use Rattle.campaign.specs.declared.Entered.{Entered}
 use Rattle.campaign.specs.declared.Withdrawn.{Withdrawn}
 use Rattle.campaign.specs.declared.Verdict.the-variants as verdict
-use Rattle.campaign.proofs.Passing.{in-day, lowest-free, slot-of-day}
+use Rattle.campaign.proofs.Passing.{Begins, begins, in-day, lowest-free, slot-of-day}
 use Rattle.records.proofs.Holding.{Filed, holds-together}
 use Rattle.records.proofs.Refiling.{Day}
 use Rattle.records.proofs.Tests.{eqZ-same}
@@ -57,6 +58,21 @@ between z a b = go z (or-false (ltZ z (negsuc 8388607)) (ltZ (pos 8388607) z) a)
         let h = ltb-false 8388607 n (a .0) in
         let m : n ≡ 8388607 → ⊥ = λ e. off (negsuc n) (negsuc 8388607) (b .0) (ap negsuc e) in
         both-true {a = ltb n 8388607} (lt-ltb n 8388607 (omega arith)) refl
+
+-- ---- a start
+
+pub data Starting (w : World) (N taps C : ℕ) (o : Started × List ℤ × List ℤ) : Type 0 where
+  refused : (o .0 .answer ≡ 0 → ⊥) → o .0 .campaign ≡ w .campaign → o .1 ≡ w .store → o .2 ≡ w .sums → Starting w N taps C o
+  began : o .0 .answer ≡ 0 → Begins N taps C (w .store) (w .sums) → o .0 .campaign ≡ fresh N taps C → o .1 ≡ clearedWide (C * P N) (w .store)
+      → o .2 ≡ clearedWide (P N) (w .sums) → Starting w N taps C o
+
+pub starting : (w : World) (N taps C : ℕ) → Starting w N taps C (startOutcome (w .campaign) N taps C (w .store) (w .sums))
+unfolding startOutcome
+starting w N taps C =
+    outcome-cases (startChecks N taps C (w .store) (w .sums)) tt (λ n. (record { answer = n; campaign = w .campaign }, w .store, w .sums))
+    (record { answer = 0; campaign = fresh N taps C }, clearedWide (C * P N) (w .store), clearedWide (P N) (w .sums)) (Starting w N taps C)
+    (λ n h _. refused h refl refl refl)
+    (λ p. began refl (begins N taps C (w .store) (w .sums) (accepts (startChecks N taps C (w .store) (w .sums)) p)) refl refl refl)
 
 -- ---- an entry
 

@@ -1,13 +1,15 @@
 -- Document 01, "A record holds together when": a run of calls, each given the record that the one before handed back and the same lent
--- memory, untouched between. Assumes nothing.
-use mathlib.Core.List.{List, [], _∷_}
-use mathlib.Core.Bool.{Bool, false, cond, _&&_}
+-- memory, untouched between. A start is a call like the others: refused, it leaves the campaign that was under way; accepted, it begins a new
+-- history in the same lent memory. Assumes nothing.
+use mathlib.Core.Path.{_≡_}
+use mathlib.Core.List.{List, [], _∷_, _++_}
+use mathlib.Core.Bool.{Bool, true, false, cond, _&&_, _||_}
 use Prim.Native.Nat.{ℕ}
 use lib.Dec.{eqb, ltb}
 use lib.IntN.{ℤ}
 use lib.ListN.{length}
-use Rattle.records.specs.Record.{unseen, standing, overloaded, dead, withdrawn}
-use Rattle.campaign.specs.Calls.{railPlace, still, enterOutcome, withdrawOutcome, verdictNumber}
+use Rattle.records.specs.Record.{unseen, standing, overloaded, dead, withdrawn, fresh}
+use Rattle.campaign.specs.Calls.{railPlace, still, startOutcome, enterOutcome, withdrawOutcome, verdictNumber}
 use Rattle.trend.specs.Calls.{countsOutcome, responseOutcome, summaryOutcome, countsNumber, summaryNumber}
 use Rattle.records.specs.declared.Campaign.{Campaign}
 
@@ -19,14 +21,18 @@ pub record World : Type 0 where
 
 -- a call with all its arguments but those
 pub data Call : Type 0 where
+  start : ℕ → ℕ → ℕ → Call
   enter : ℕ → List ℤ → Call
   withdraw : ℕ → Call
   counts : Call
   response : List ℤ → List ℤ → List ℤ → List ℕ → Call
   summary : List ℤ → List ℕ → Call
 
--- the world after a call: only an entry and a withdrawal hand a record back
+-- the world after a call: only a start, an entry and a withdrawal hand a record back
 abbrev pub after : World → Call → World
+after w (start N taps C) =
+    let o = startOutcome (w .campaign) N taps C (w .store) (w .sums) in
+    record { campaign = o .0 .campaign; store = o .1; sums = o .2 }
 after w (enter d y) =
     let o = enterOutcome (w .campaign) (w .store) (w .sums) d y in
     record { campaign = o .0 .campaign; store = o .1; sums = o .2 }
@@ -39,6 +45,7 @@ after w (summary room tags) = w
 
 -- the number that a call answers: 0 is accepted
 abbrev pub answer : World → Call → ℕ
+answer w (start N taps C) = startOutcome (w .campaign) N taps C (w .store) (w .sums) .0 .answer
 answer w (enter d y) = verdictNumber (enterOutcome (w .campaign) (w .store) (w .sums) d y .0 .entry .verdict)
 answer w (withdraw d) = withdrawOutcome (w .campaign) (w .store) (w .sums) d .0 .answer
 answer w counts = countsNumber (countsOutcome (w .campaign) (w .store) (w .sums))
@@ -53,10 +60,40 @@ unfoldable pub run : World → List Call → World
 run w [] = w
 run w (c ∷ earlier) = after (run w earlier) c
 
+-- ---- whose history it is
+
+-- whether a call is a start
+abbrev pub starts : Call → Bool
+starts (start N taps C) = true
+starts (enter d y) = false
+starts (withdraw d) = false
+starts counts = false
+starts (response r mean room tags) = false
+starts (summary room tags) = false
+
+-- whether a start was accepted among the calls
+unfoldable pub underWay : World → List Call → Bool
+underWay w [] = false
+underWay w (c ∷ earlier) = (starts c && accepted (run w earlier) c) || underWay w earlier
+
+-- the record as the last accepted start made it: its order, taps and slot count are those of the campaign
+abbrev pub begins : Call → Campaign → Campaign
+begins (start N taps C) before = fresh N taps C
+begins (enter d y) before = before
+begins (withdraw d) before = before
+begins counts before = before
+begins (response r mean room tags) before = before
+begins (summary room tags) before = before
+
+unfoldable pub begun : World → List Call → Campaign
+begun w [] = w .campaign
+begun w (c ∷ earlier) = cond (accepted (run w earlier) c) (begins c (begun w earlier)) (begun w earlier)
+
 -- ---- what the history says
 
--- whether a call names day d
+-- whether a call names day d: a start names every day
 abbrev pub names : Call → ℕ → Bool
+names (start N taps C) d = true
 names (enter e y) d = eqb e d
 names (withdraw e) d = eqb e d
 names counts d = false
@@ -65,6 +102,7 @@ names (summary room tags) d = false
 
 -- what an accepted call makes of the day that it names
 abbrev pub makes : Call → ℕ
+makes (start N taps C) = unseen
 makes (enter d y) = cond (ltb (railPlace y) (length y)) overloaded (cond (still y) dead standing)
 makes (withdraw d) = withdrawn
 makes counts = unseen
@@ -76,8 +114,9 @@ unfoldable pub made : World → List Call → ℕ → ℕ
 made w [] d = unseen
 made w (c ∷ earlier) d = cond (names c d && accepted (run w earlier) c) (makes c) (made w earlier d)
 
--- the recording of a call, and the last recording accepted for day d
+-- the recording of a call, of which a start leaves none; and the last recording accepted for day d
 abbrev pub recording : Call → List ℤ → List ℤ
+recording (start N taps C) before = []
 recording (enter d y) before = y
 recording (withdraw d) before = before
 recording counts before = before
@@ -87,3 +126,10 @@ recording (summary room tags) before = before
 unfoldable pub heard : World → List Call → ℕ → List ℤ
 heard w [] d = []
 heard w (c ∷ earlier) d = cond (names c d && accepted (run w earlier) c) (recording c (heard w earlier d)) (heard w earlier d)
+
+-- ---- an entry withdrawn later
+
+-- after the calls `before`, the calls `between` name other days than d, and none of them is refused with 12
+unfoldable pub Elsewhere : World → ℕ → List Call → List Call → Type 0
+Elsewhere w d before [] = Unit
+Elsewhere w d before (c ∷ between) = (names c d ≡ false) × (answer (run w (between ++ before)) c ≡ 12 → ⊥) × Elsewhere w d before between

@@ -1,8 +1,8 @@
--- After any number of turns the record and the memory are what the log's calls made of them, in a run from the start that was accepted; and
--- the room lent to a response is long enough. Assumes nothing.
-use mathlib.Core.Path.{_≡_, refl, ap, _∙_}
+-- After any number of turns the record and the memory are what the log's calls made of them, in a run in which a start was accepted; and the
+-- room lent to a response is long enough. Assumes nothing.
+use mathlib.Core.Path.{_≡_, refl, sym, ap, subst, _∙_}
 use mathlib.Core.Bool.{Bool, true, false, cond}
-use mathlib.Core.List.{List, [], _++_}
+use mathlib.Core.List.{List, [], _∷_, _++_}
 use Prim.Native.Nat.{ℕ, zero, suc, _+_, _*_, _≤_}
 use native.Mathlib.Omega.{arith}
 use borrow.Author.Tests.{ltb-false}
@@ -19,8 +19,9 @@ use Rattle.records.specs.Record.{fresh}
 use Rattle.records.specs.declared.Campaign.{Campaign}
 use Rattle.campaign.specs.Calls.{startOutcome}
 use Rattle.trend.specs.Calls.{responseChecks, responseOutcome, worked, meanAt}
-use Rattle.history.specs.Run.{World, Call, enter, withdraw, after, run}
-use Rattle.history.proofs.Begun.{begun, started}
+use Rattle.history.specs.Run.{World, Call, start, enter, withdraw, counts, response, after, run, underWay, begun}
+use Rattle.history.specs.Run as run-of
+use Rattle.history.proofs.UnderWay.{stays-under-way, same-campaign, started, started-campaign}
 use Rattle.history.proofs.History.{says}
 use Rattle.history.proofs.Steps.{outcome-cases}
 use Rattle.history.proofs.Answers.{RoomFor, responded}
@@ -36,20 +37,17 @@ use Rattle.logbook.specs.declared.Applied.{Applied}
 use Rattle.logbook.proofs.Starts as starting
 use Rattle.logprogram.specs.Program.{Place, zeros, firstMemory, turnOn, standsAt}
 use Rattle.logprogram.proofs.Turns.{StandsAt, found-at, turns}
-use Rattle.logruns.specs.Calls.{callsOf, callsAt, Reached, onward, reached}
+use Rattle.logruns.specs.Calls.{firstWorld, callsOf, callsAt, Reached, onward, reached}
 use Rattle.logruns.proofs.Recording.{Sampled, SampledAt, samples-held}
 use Rattle.logruns.proofs.Recording as recording
 
 -- ---- what is claimed of a place
 
--- a start of an order up to 9 was accepted, the record and the memory are those of the run of the calls since, and a response has room
+-- a start of an order up to 9 was accepted, the record and the memory are those of the run of the calls, and a response has room
 pub record Running (calls : List Call) (c : Campaign) (m : Memory) : Type 0 where
-  pub N : ℕ
-  pub taps : ℕ
-  pub C : ℕ
-  pub few : N ≤ 9
-  pub accepted : startOutcome (fresh 0 0 0) N taps C (zeros 4088) (zeros 511) .0 .answer ≡ 0
-  pub world : _≡_ {A = World} (record { campaign = c; store = m .store; sums = m .sums }) (run (begun N taps C (zeros 4088) (zeros 511)) calls)
+  pub going : underWay firstWorld calls ≡ true
+  pub few : begun firstWorld calls .order ≤ 9
+  pub world : _≡_ {A = World} (record { campaign = c; store = m .store; sums = m .sums }) (run firstWorld calls)
   pub room : RoomFor 9 (m .r) (m .mean) (m .room) (m .tags)
 
 -- before the start there are no calls, and after a refused one nothing more is read
@@ -81,14 +79,23 @@ began N taps C k =
     filing firstMemory
     (answered k (λ n. (startedBy (record { answer = n; campaign = fresh 0 0 0 }), zeros 4088, zeros 511)) (over startedBy (startOutcome (fresh 0 0 0) N taps C (zeros 4088) (zeros 511))))
 
+-- a start of the campaign goes on or stops by its answer
+by-answer : {calls : List Call} {c : Campaign} {m : Memory} (n : ℕ) → Running calls c m → Follows calls c m (answered n (λ _. phase.Stopped) phase.Between)
+by-answer zero r = between r
+by-answer (suc n) r = stopped
+
 began-follows : (N taps C k : ℕ) → first (logStartChecks N taps C) ≡ k
-    → Follows [] (began N taps C k .0 .book .campaign) (began N taps C k .1) (began N taps C k .0 .book .phase)
+    → Follows (answered k (λ _. []) (start N taps C ∷ []) ++ []) (began N taps C k .0 .book .campaign) (began N taps C k .1) (began N taps C k .0 .book .phase)
 unfolding run
 began-follows N taps C (suc k) e = stopped
 began-follows N taps C zero e =
     let a = starting.accepted (fresh 0 0 0) N taps C (zeros 4088) (zeros 511) (omega (arith, length-replicate {A = ℤ} 4088 (pos 0))) (omega (arith, length-replicate {A = ℤ} 511 (pos 0))) e in
-    rw (started (fresh 0 0 0) N taps C (zeros 4088) (zeros 511) a .1)
-    (between (record { N = N; taps = taps; C = C; few = few-slots N taps C e; accepted = a; world = refl; room = first-room }))
+    by-answer (startOutcome (fresh 0 0 0) N taps C (zeros 4088) (zeros 511) .0 .answer) (record {
+      going = started firstWorld N taps C [] a;
+      few = subst (λ (x : Campaign). x .order ≤ 9) (sym (started-campaign firstWorld N taps C [] a)) (few-slots N taps C e);
+      world = refl;
+      room = first-room;
+    })
 
 -- ---- an ask keeps the room's lengths
 
@@ -112,33 +119,38 @@ asked-room c store sums r mean room tags h l =
     })
 
 module _ {calls : List Call} {c : Campaign} {m : Memory} (r : Running calls c m) where
-  pub order-is : c .order ≡ r .N
-  order-is =
-      ap (λ w. w .campaign .order) (r .world)
-      ∙ says (r .N) (r .taps) (r .C) (zeros 4088) (zeros 511) (started (fresh 0 0 0) (r .N) (r .taps) (r .C) (zeros 4088) (zeros 511) (r .accepted) .0) calls .order
+  pub order-is : c .order ≡ begun firstWorld calls .order
+  order-is = ap (λ w. w .campaign .order) (r .world) ∙ says firstWorld calls (r .going) .order
 
   pub order-few : c .order ≤ 9
   order-few = omega (arith, order-is, r .few)
 
 -- ---- one record
 
--- the run goes on, and the room is as long
-onward-running : {calls more : List Call} {c d : Campaign} {m l : Memory} (r : Running calls c m)
-    → _≡_ {A = World} (record { campaign = d; store = l .store; sums = l .sums }) (run (begun (r .N) (r .taps) (r .C) (zeros 4088) (zeros 511)) more)
-    → RoomFor 9 (l .r) (l .mean) (l .room) (l .tags) → Running more d l
-onward-running r w o = record { N = r .N; taps = r .taps; C = r .C; few = r .few; accepted = r .accepted; world = w; room = o }
+-- the run goes on by a call, and the room is as long
+onward-running : {calls : List Call} {c d : Campaign} {m l : Memory} (r : Running calls c m) (call : Call) → run-of.starts call ≡ false
+    → _≡_ {A = World} (record { campaign = d; store = l .store; sums = l .sums }) (run firstWorld (call ∷ calls))
+    → RoomFor 9 (l .r) (l .mean) (l .room) (l .tags) → Running (call ∷ calls) d l
+onward-running {calls} r call n w o =
+    record {
+      going = stays-under-way firstWorld call calls (r .going);
+      few = subst (λ (x : Campaign). x .order ≤ 9) (sym (same-campaign firstWorld call calls n)) (r .few);
+      world = w;
+      room = o;
+    }
 
 module _ (c : Campaign) (m : Memory) (calls : List Call) where
   start-follows : (N taps C : ℕ) → c ≡ fresh 0 0 0 → m ≡ firstMemory → calls ≡ []
-      → let o = filing m (beganOutcome c N taps C (m .store) (m .sums)) in Follows calls (o .0 .book .campaign) (o .1) (o .0 .book .phase)
+      → let o = filing m (beganOutcome c N taps C (m .store) (m .sums)) in
+      Follows (answered (first (logStartChecks N taps C)) (λ _. []) (start N taps C ∷ []) ++ calls) (o .0 .book .campaign) (o .1) (o .0 .book .phase)
   unfolding beganOutcome
   start-follows N taps C e f g = rw (e, f, g) (began-follows N taps C (first (logStartChecks N taps C)) refl)
 
   sample-follows : (d n : ℕ) (v : ℤ) (b : Bool) → Running calls c m
       → let o = cond {A = Phase × List ℤ} b (phase.Open d (n + 1), set (m .recording) n v) (phase.Open d n, m .recording) in
       Follows calls c (memory (m .store) (m .sums) (o .1) (m .r) (m .mean) (m .room) (m .tags)) (o .0)
-  sample-follows d n v true r = inside (onward-running r (r .world) (r .room))
-  sample-follows d n v false r = inside (onward-running r (r .world) (r .room))
+  sample-follows d n v true r = inside (record { going = r .going; few = r .few; world = r .world; room = r .room })
+  sample-follows d n v false r = inside (record { going = r .going; few = r .few; world = r .world; room = r .room })
 
 module _ (D : ℕ) (c : Campaign) (m : Memory) (offset : ℕ) (going : Bool) (calls : List Call) where
   abbrev standing-at : Phase → Place
@@ -149,12 +161,13 @@ module _ (D : ℕ) (c : Campaign) (m : Memory) (offset : ℕ) (going : Bool) (ca
   unfolding applied run
   record-follows y p i k (starts {N} {taps} {C}) _ (unbegun e f g) = start-follows c m calls N taps C e f g
   record-follows y p i k opens _ (between r) = inside r
-  record-follows y p i k (withdraws {d}) _ (between r) = between (onward-running r (ap (λ w. after w (withdraw d)) (r .world)) (r .room))
+  record-follows y p i k (withdraws {d}) _ (between r) = between (onward-running r (withdraw d) refl (ap (λ w. after w (withdraw d)) (r .world)) (r .room))
   record-follows y p i k asks _ (between r) =
-      between (onward-running r (r .world) (asked-room c (m .store) (m .sums) (m .r) (m .mean) (m .room) (m .tags) (order-few r) (r .room)))
+      let asked : Running (response (m .r) (m .mean) (m .room) (m .tags) ∷ calls) c m = onward-running r (response (m .r) (m .mean) (m .room) (m .tags)) refl (r .world) (r .room) in
+      between (onward-running asked counts refl (r .world) (asked-room c (m .store) (m .sums) (m .r) (m .mean) (m .room) (m .tags) (order-few r) (r .room)))
   record-follows y p i k (samples {d} {n} {v} h) _ (inside r) = sample-follows c m calls d n v (ltb n (length (m .recording))) r
   record-follows y p i k (enters {d} {n}) (recording.inside e) (inside r) =
-      rw (← e) (between (onward-running r (ap (λ w. after w (enter d (take n (m .recording)))) (r .world)) (r .room)))
+      rw (← e) (between (onward-running r (enter d (take n (m .recording))) refl (ap (λ w. after w (enter d (take n (m .recording)))) (r .world)) (r .room)))
 
 -- ---- all records
 

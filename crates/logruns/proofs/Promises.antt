@@ -14,7 +14,7 @@ use Rattle.sums.specs.Lists.{at}
 use Rattle.sums.specs.Refusals.{first, answered, outcome}
 use Rattle.register.specs.Register.{P, wave}
 use Rattle.response.specs.Response.{prediction}
-use Rattle.records.specs.Record.{unseen, standing, overloaded, dead, withdrawn, daysIn, together, marked, fresh}
+use Rattle.records.specs.Record.{unseen, standing, overloaded, dead, withdrawn, daysIn, together, marked}
 use Rattle.records.specs.declared.Campaign.{Campaign}
 use Rattle.records.proofs.Refiling.{Day}
 use Rattle.campaign.specs.Calls.{enterChecks, withdrawChecks, railPlace, still, entered, keptOutcome, judgedOutcome, withdrawnOutcome, enterOutcome, withdrawOutcome, verdictNumber}
@@ -23,8 +23,7 @@ use Rattle.campaign.specs.declared.Withdrawn.{Withdrawn}
 use Rattle.campaign.specs.declared.Verdict.the-variants as verdict
 use Rattle.trend.specs.Calls.{responseChecks, countsOutcome, responseOutcome}
 use Rattle.trend.specs.declared.Tally.{Tally}
-use Rattle.history.specs.Run.{World, Call, enter, withdraw, response, answer, run, made, heard}
-use Rattle.history.proofs.Begun.{begun}
+use Rattle.history.specs.Run.{World, Call, enter, withdraw, response, answer, begun, made, heard}
 use Rattle.history.proofs.Steps.{outcome-cases}
 use Rattle.history.proofs.Answers.{not-first, RoomFor, responded}
 use Rattle.history.proofs.EveryRun as every
@@ -39,16 +38,20 @@ use Rattle.report.specs.declared.Line.the-variants as line
 use Rattle.logbook.specs.Book.{Memory, logStartChecks, dayLength, tallied, applied}
 use Rattle.logbook.specs.declared.Applied.{Applied}
 use Rattle.logbook.proofs.Starts.{never-six}
-use Rattle.logprogram.specs.Program.{Place, zeros, firstMemory, rowsBytes, turnOn, standsAt, turn}
+use Rattle.logprogram.specs.Program.{Place, firstMemory, rowsBytes, turnOn, standsAt, turn}
 use Rattle.logprogram.proofs.Turns.{found-at, turns}
-use Rattle.logruns.specs.Calls.{worldOf, lineNumber, reached}
+use Rattle.logruns.specs.Calls.{worldOf, firstWorld, lineNumber, reached}
 use Rattle.logruns.proofs.Following.{Running, Follows, unbegun, between, inside, order-is, order-few, follows}
 
 -- ---- the run that a place stands in
 
 module _ {calls : List Call} {c : Campaign} {m : Memory} (r : Running calls c m) where
-  abbrev pub w₀ : World
-  w₀ = begun (r .N) (r .taps) (r .C) (zeros 4088) (zeros 511)
+  -- the order and the taps of the start that was accepted
+  abbrev pub N : ℕ
+  N = begun firstWorld calls .order
+
+  abbrev pub taps : ℕ
+  taps = begun firstWorld calls .taps
 
   abbrev now : World
   now = record { campaign = c; store = m .store; sums = m .sums }
@@ -56,11 +59,11 @@ module _ {calls : List Call} {c : Campaign} {m : Memory} (r : Running calls c m)
   holds : together c (m .store) (m .sums) ≡ true
   holds =
       ap (λ (w : World). together (w .campaign) (w .store) (w .sums)) (r .world)
-      ∙ every.holds (fresh 0 0 0) (r .N) (r .taps) (r .C) (zeros 4088) (zeros 511) (r .accepted) calls
+      ∙ every.holds firstWorld calls (r .going)
 
   no-fifteen : (call : Call) → answer now call ≡ 15 → ⊥
   no-fifteen call e =
-      every.no-fifteen (fresh 0 0 0) (r .N) (r .taps) (r .C) (zeros 4088) (zeros 511) (r .accepted) calls call (ap (λ w. answer w call) (sym (r .world)) ∙ e)
+      every.no-fifteen firstWorld calls (r .going) call (ap (λ w. answer w call) (sym (r .world)) ∙ e)
 
   -- ---- 6 is no answer of an entry or of a withdrawal, and a response has room
 
@@ -161,7 +164,7 @@ module _ {calls : List Call} {c : Campaign} {m : Memory} (r : Running calls c m)
   -- the days in each state, by what the last accepted call that names each made of it
   abbrev pub historyTally : Tally
   historyTally =
-      let days = every.daysMade (fresh 0 0 0) (r .N) (r .taps) (r .C) (zeros 4088) (zeros 511) (r .accepted) calls in
+      let days = every.daysMade firstWorld calls (r .going) in
       record { unseen = days unseen; standing = days standing; overloaded = days overloaded; dead = days dead; withdrawn = days withdrawn }
 
   abbrev asked : Phase → Applied × Memory
@@ -172,11 +175,11 @@ module _ {calls : List Call} {c : Campaign} {m : Memory} (r : Running calls c m)
   counts-said p =
       ap (λ n. line.Answered (answer (now r) (response (m .r) (m .mean) (m .room) (m .tags))) (tallied n))
       (ap (λ (w : World). countsOutcome (w .campaign) (w .store) (w .sums)) (r .world)
-      ∙ every.counts-are (fresh 0 0 0) (r .N) (r .taps) (r .C) (zeros 4088) (zeros 511) (r .accepted) calls)
+      ∙ every.counts-are firstWorld calls (r .going))
 
-  room-for : RoomFor (r .N) (m .r) (m .mean) (m .room) (m .tags)
+  room-for : RoomFor (N r) (m .r) (m .mean) (m .room) (m .tags)
   room-for =
-      let p : P (r .N) ≤ 511 = omega (arith, pow-mono (r .few)) in
+      let p : P (N r) ≤ 511 = omega (arith, pow-mono (r .few)) in
       record {
         r-long = omega (arith, r .room .r-long);
         mean-long = omega (arith, r .room .mean-long);
@@ -184,27 +187,27 @@ module _ {calls : List Call} {c : Campaign} {m : Memory} (r : Running calls c m)
         tags-long = omega (arith, r .room .tags-long);
       }
 
-  rows-said : (p : Phase) (a : ℕ) → a ≡ 0 → answer (now r) (response (m .r) (m .mean) (m .room) (m .tags)) ≡ a → asked p .0 .rows ≡ P (r .N)
+  rows-said : (p : Phase) (a : ℕ) → a ≡ 0 → answer (now r) (response (m .r) (m .mean) (m .room) (m .tags)) ≡ a → asked p .0 .rows ≡ P (N r)
   unfolding applied
   rows-said p a z e =
-      ap (λ n. answered n (λ _. 0) (dayLength (c .order))) (e ∙ z) ∙ ap dayLength (order-is r) ∙ ap (λ b. cond b (P (r .N)) 0) (le-leb (r .N) 9 (r .few))
+      ap (λ n. answered n (λ _. 0) (dayLength (c .order))) (e ∙ z) ∙ ap dayLength (order-is r) ∙ ap (λ b. cond b (P (N r)) 0) (le-leb (N r) 9 (r .few))
 
   module _ (h : ℕ → ℕ → ℤ)
-      (convolved : (d : ℕ) → Day d → made (w₀ r) calls d ≡ standing → (j : ℕ) → j < P (r .N)
-      → at (heard (w₀ r) calls d) j ≡ prediction (P (r .N)) (wave (r .N) (r .taps)) (h d) j) where
+      (convolved : (d : ℕ) → Day d → made firstWorld calls d ≡ standing → (j : ℕ) → j < P (N r)
+      → at (heard firstWorld calls d) j ≡ prediction (P (N r)) (wave (N r) (taps r)) (h d) j) where
     -- the sum of the responses of the days standing
     abbrev pub total : ℕ → ℤ
-    total = every.total (fresh 0 0 0) (r .N) (r .taps) (r .C) (zeros 4088) (zeros 511) (r .accepted) calls h convolved
+    total = every.total firstWorld calls (r .going) h convolved
 
-    recovered : (d : ℕ) → Day d → made (w₀ r) calls d ≡ standing
+    recovered : (d : ℕ) → Day d → made firstWorld calls d ≡ standing
         → let o = responseOutcome c (m .store) (m .sums) (m .r) (m .mean) (m .room) (m .tags) in
-        (o .0 ≡ 0) × ((k : ℕ) → k < P (r .N) → at (o .1) k ≡ pos (suc (P (r .N))) *ℤ total k)
+        (o .0 ≡ 0) × ((k : ℕ) → k < P (N r) → at (o .1) k ≡ pos (suc (P (N r))) *ℤ total k)
     recovered d y e =
         subst
         (λ (w : World). let o = responseOutcome (w .campaign) (w .store) (w .sums) (m .r) (m .mean) (m .room) (m .tags) in
-        (o .0 ≡ 0) × ((k : ℕ) → k < P (r .N) → at (o .1) k ≡ pos (suc (P (r .N))) *ℤ total k))
+        (o .0 ≡ 0) × ((k : ℕ) → k < P (N r) → at (o .1) k ≡ pos (suc (P (N r))) *ℤ total k))
         (sym (r .world))
-        (every.recovered (fresh 0 0 0) (r .N) (r .taps) (r .C) (zeros 4088) (zeros 511) (r .accepted) calls h convolved d y e (m .r) (m .mean) (m .room) (m .tags) room-for)
+        (every.recovered firstWorld calls (r .going) h convolved d y e (m .r) (m .mean) (m .room) (m .tags) room-for)
 
 -- an ask stands after n turns
 module _ (n : ℕ) (input : List ℕ) (k : ℕ) (stands : standsAt (here n input) (reached n input .left) true ≡ found.Whole item.Ask k) where
@@ -233,11 +236,11 @@ module _ (n : ℕ) (input : List ℕ) (k : ℕ) (stands : standsAt (here n input
 
   -- and where some day stands and the recordings then standing are convolutions of whole-number responses, (P+1) times the sum of these
   module _ (h : ℕ → ℕ → ℤ)
-      (convolved : (d : ℕ) → Day d → made (w₀ run-here) (reached n input .calls) d ≡ standing → (j : ℕ) → j < P (run-here .N)
-      → at (heard (w₀ run-here) (reached n input .calls) d) j ≡ prediction (P (run-here .N)) (wave (run-here .N) (run-here .taps)) (h d) j) where
-    pub prints-recovered : (d : ℕ) → Day d → made (w₀ run-here) (reached n input .calls) d ≡ standing
-        → (said ≡ responseLine 0 (historyTally run-here) ++ rowsBytes (P (run-here .N)) (askedHere .1 .r) (askedHere .1 .mean))
-        × ((j : ℕ) → j < P (run-here .N) → at (askedHere .1 .r) j ≡ pos (suc (P (run-here .N))) *ℤ total run-here h convolved j)
+      (convolved : (d : ℕ) → Day d → made firstWorld (reached n input .calls) d ≡ standing → (j : ℕ) → j < P (N run-here)
+      → at (heard firstWorld (reached n input .calls) d) j ≡ prediction (P (N run-here)) (wave (N run-here) (taps run-here)) (h d) j) where
+    pub prints-recovered : (d : ℕ) → Day d → made firstWorld (reached n input .calls) d ≡ standing
+        → (said ≡ responseLine 0 (historyTally run-here) ++ rowsBytes (P (N run-here)) (askedHere .1 .r) (askedHere .1 .mean))
+        × ((j : ℕ) → j < P (N run-here) → at (askedHere .1 .r) j ≡ pos (suc (P (N run-here))) *ℤ total run-here h convolved j)
     unfolding applied
     prints-recovered d y e =
         let q = recovered run-here h convolved d y e in (

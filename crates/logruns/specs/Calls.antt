@@ -5,8 +5,9 @@ use mathlib.Core.Bool.{true, cond}
 use Prim.Native.Nat.{ℕ, zero, suc}
 use lib.IntN.{ℤ}
 use lib.ListN.{drop}
+use Rattle.sums.specs.Refusals.{first, answered}
 use Rattle.campaign.specs.Calls.{verdictNumber}
-use Rattle.history.specs.Run.{World, Call, enter, withdraw, counts, response}
+use Rattle.history.specs.Run.{World, Call, start, enter, withdraw, counts, response}
 use Rattle.log.specs.declared.Phase.{Phase}
 use Rattle.log.specs.declared.Phase.the-variants as phase
 use Rattle.log.specs.declared.Item.{Item}
@@ -15,11 +16,16 @@ use Rattle.log.specs.declared.Found.{Found}
 use Rattle.log.specs.declared.Found.the-variants as found
 use Rattle.report.specs.declared.Line.{Line}
 use Rattle.report.specs.declared.Line.the-variants as line
+use Rattle.logbook.specs.Book.{logStartChecks}
 use Rattle.logprogram.specs.Program.{Place, firstPlace, standsAt, turn}
 
 -- the record and the memory that the campaign's calls are given
 abbrev pub worldOf : Place → World
 worldOf p = record { campaign = p .book .campaign; store = p .memory .store; sums = p .memory .sums }
+
+-- at the beginning
+abbrev pub firstWorld : World
+firstWorld = worldOf firstPlace
 
 -- ---- the samples that came since the day was opened, in their order
 
@@ -46,8 +52,9 @@ entry phase.Between y = []
 entry (phase.Open d n) y = enter d y ∷ []
 entry phase.Stopped y = []
 
+-- a start is called where the program's own checks pass
 abbrev pub callsOf : Place → List ℤ → Item → List Call
-callsOf p y (item.Start N taps C) = []
+callsOf p y (item.Start N taps C) = answered (first (logStartChecks N taps C)) (λ _. []) (start N taps C ∷ [])
 callsOf p y (item.Open d) = []
 callsOf p y (item.Sample v) = []
 callsOf p y item.Enter = entry (p .book .phase) y

@@ -1,4 +1,5 @@
 -- The laws of the C door.
-mod Copying
-mod Opening
+pub mod Copying
+pub mod Opening
+pub mod Starting
 pub mod Untouched

@@ -1,24 +1,21 @@
 -- A refused door touches nothing: the record that the call hands back is the lent one, and its tables, put back, are as they were.
 -- Assumes nothing.
-use mathlib.Core.Path.{_≡_, refl, sym, ap, ap₂, _∙_}
+use mathlib.Core.Path.{_≡_, refl, sym, ap, _∙_}
 use mathlib.Core.List.{List, [], _∷_}
 use mathlib.Core.Bool.{Bool, true, false, cond}
 use Prim.Native.Nat.{ℕ, zero, suc, _≤_}
 use lib.IntN.{ℤ}
 use lib.Dec.{eqb, ltb}
-use lib.ListN.{length, take}
-use Rattle.sums.specs.Lists.{put}
+use lib.ListN.{length}
 use Rattle.sums.specs.Refusals.{first, answered}
 use Rattle.records.specs.Record.{standing, daysIn}
 use Rattle.records.specs.declared.Campaign.{Campaign}
-use Rattle.campaign.specs.declared.Started.{Started}
 use Rattle.campaign.specs.declared.Entered.{Entered}
 use Rattle.campaign.specs.declared.Withdrawn.{Withdrawn}
 use Rattle.campaign.specs.declared.Verdict.the-variants as verdict
-use Rattle.campaign.specs.Calls.{startChecks, startOutcome, entered, enterChecks, enterOutcome, railPlace, still, withdrawChecks, withdrawOutcome, verdictNumber}
-use Rattle.meter.specs.Doors.{tablesShort, recordOf, startedOut, enteredOut, withdrawnOut, startDoor, enterDoor, withdrawDoor}
-use Rattle.meter.proofs.Copying.{put-back}
-use Rattle.meter.proofs.Opening.{shut, opens, long}
+use Rattle.campaign.specs.Calls.{entered, enterChecks, enterOutcome, railPlace, still, withdrawChecks, withdrawOutcome, verdictNumber}
+use Rattle.meter.specs.Doors.{tablesShort, recordOf, startDoorChecks, enteredOut, withdrawnOut, startDoor, enterDoor, withdrawDoor}
+use Rattle.meter.proofs.Opening.{shut, opens, long, put-backs}
 
 -- what a refusal with this number hands back
 abbrev Stays : {A : Type 0} → (A → ℕ) → (ℕ → A) → A → Type 0
@@ -46,27 +43,19 @@ module _ (N taps C : ℕ) (days slots : List ℕ) (store sums : List ℤ) where
   record-of = recordOf N taps C days slots
 
   module _ (l : (366 ≤ length days) × (64 ≤ length slots)) where
-    put-backs : {A : Type 0} (f : List ℕ → List ℕ → A) → f (put (take 366 days) days) (put (take 64 slots) slots) ≡ f days slots
-    put-backs f = ap₂ f (put-back 366 days (l .0)) (put-back 64 slots (l .1))
-
-    started : (n : ℕ) (made : Started × List ℤ × List ℤ) → made .0 .answer ≡ 0
-        → Stays {A = Four} (λ o. o .0) four (startedOut days slots (answered n (λ n. (record { answer = n; campaign = record-of }, store, sums)) made))
-    started zero made e h = absurd (h e)
-    started (suc n) made e h = put-backs (λ d t. (suc n, d, t, store, sums))
-
     withdrew : (n : ℕ) (made : Withdrawn × List ℤ × List ℤ) → made .0 .answer ≡ 0
         → Stays {A = Four} (λ o. o .0) four (withdrawnOut days slots (answered n (λ n. (record { answer = n; campaign = record-of }, store, sums)) made))
     withdrew zero made e h = absurd (h e)
-    withdrew (suc n) made e h = put-backs (λ d t. (suc n, d, t, store, sums))
+    withdrew (suc n) made e h = put-backs days slots l (λ d t. (suc n, d, t, store, sums))
 
   pub start-refused : (startDoor N taps C days slots store sums .0 ≡ 0 → ⊥)
       → startDoor N taps C days slots store sums ≡ (startDoor N taps C days slots store sums .0, days, slots, store, sums)
-  unfolding startDoor startOutcome
-  start-refused =
-      checked {A = Four} (λ o. o .0) four days slots (startDoor N taps C days slots store sums)
-      (startedOut days slots (startOutcome record-of N taps C store sums)) refl
-      (λ e. sym (shut days slots four _ e)) (λ e. sym (opens days slots four _ e))
-      (λ l. started l (first (startChecks N taps C store sums)) _ refl) (tablesShort days slots) refl
+  unfolding startDoor
+  start-refused = stays (first (startDoorChecks N taps C days slots store sums)) _ refl
+    where
+      stays : (n : ℕ) (made : Four) → made .0 ≡ 0 → Stays (λ o. o .0) four (answered n four made)
+      stays zero made e h = absurd (h e)
+      stays (suc n) made e h = refl
 
   pub withdraw-refused : (d : ℕ) → (withdrawDoor N taps C days slots store sums d .0 ≡ 0 → ⊥)
       → withdrawDoor N taps C days slots store sums d ≡ (withdrawDoor N taps C days slots store sums d .0, days, slots, store, sums)
@@ -86,7 +75,7 @@ module _ (N taps C : ℕ) (days slots : List ℕ) (store sums : List ℤ) where
 
     module _ (l : (366 ≤ length days) × (64 ≤ length slots)) where
       told : (n : ℕ) → Stays {A = Six} (λ o. o .0) six (enteredOut days slots state value (refuse n))
-      told n h = put-backs l (λ a b. (n, a, b, store, sums, state, value))
+      told n h = put-backs days slots l (λ a b. (n, a, b, store, sums, state, value))
 
       -- refused before the verdict, or after it
       judged : (n : ℕ) (at-rail same : Bool) (m : ℕ) (o p k : Entered × List ℤ × List ℤ)

@@ -1,22 +1,24 @@
 -- The doors of the campaign's calls: the record crosses as its order, taps and slot count and two lent tables, `days` of 366 and `slots` of 64,
--- and each door is the call's own outcome function between them. A shorter table is refused with 15, before the call's checks, and nothing is
--- touched; a longer one keeps its tail. Assumes nothing.
-use mathlib.Core.List.{List, [], _∷_}
+-- and each door is the call's own outcome function between them. At a start a shorter table is room too short, 6 in its place; at every other call
+-- it is refused with 15, before the call's checks. Either way nothing is touched; a longer table keeps its tail. Assumes nothing.
+use mathlib.Core.List.{List, [], _∷_, _++_}
 use mathlib.Core.Bool.{Bool, _||_}
-use Prim.Native.Nat.{ℕ}
+use Prim.Native.Nat.{ℕ, _*_}
 use lib.Dec.{ltb}
 use lib.IntN.{ℤ}
 use lib.ListN.{length, take}
 use Rattle.sums.specs.Lists.{put}
 use Rattle.sums.specs.Refusals.{outcome}
-use Rattle.records.specs.Record.{standing, overloaded, dead}
+use Rattle.register.specs.Register.{P}
+use Rattle.register.specs.Calls.{tapsChecks}
+use Rattle.response.specs.Calls.{clearedWide}
+use Rattle.records.specs.Record.{standing, overloaded, dead, fresh}
 use Rattle.records.specs.declared.Campaign.{Campaign}
 use Rattle.campaign.specs.declared.Verdict.{Verdict}
 use Rattle.campaign.specs.declared.Verdict.the-variants as verdict
-use Rattle.campaign.specs.declared.Started.{Started}
 use Rattle.campaign.specs.declared.Entered.{Entered}
 use Rattle.campaign.specs.declared.Withdrawn.{Withdrawn}
-use Rattle.campaign.specs.Calls.{startOutcome, enterOutcome, withdrawOutcome, verdictNumber}
+use Rattle.campaign.specs.Calls.{slotsOut, enterOutcome, withdrawOutcome, verdictNumber}
 use Rattle.trend.specs.declared.Tally.{Tally}
 use Rattle.trend.specs.declared.Counts.{Counts}
 use Rattle.trend.specs.declared.Counts.the-variants as counts
@@ -27,7 +29,7 @@ use Rattle.trend.specs.Calls.{countsOutcome, responseOutcome, summaryOutcome, c
 
 -- ---- the record
 
--- 15: a table is short of 366 days or 64 slots
+-- a table is short of 366 days or 64 slots
 abbrev pub tablesShort : List ℕ → List ℕ → Bool
 tablesShort days slots = ltb (length days) 366 || ltb (length slots) 64
 
@@ -35,19 +37,28 @@ tablesShort days slots = ltb (length days) 366 || ltb (length slots) 64
 abbrev pub recordOf : ℕ → ℕ → ℕ → List ℕ → List ℕ → Campaign
 recordOf N taps C days slots = record { order = N; taps = taps; slots = C; days = take 366 days; table = take 64 slots }
 
--- a door behind that check
+-- 15: a door behind that check
 abbrev pub behind : {A : Type 0} → List ℕ → List ℕ → (ℕ → A) → A → A
 behind days slots refused opened = outcome ((15, tablesShort days slots) ∷ []) refused opened
 
--- ---- start: the answer, the tables, the store and the sums
+-- ---- start: 1, 2, 3, 4, 9, 6; the answer, the tables, the store and the sums
 
-abbrev pub startedOut : List ℕ → List ℕ → Started × List ℤ × List ℤ → ℕ × List ℕ × List ℕ × List ℤ × List ℤ
-startedOut days slots (s, store, sums) = (s .answer, put (s .campaign .days) days, put (s .campaign .table) slots, store, sums)
+abbrev pub startDoorChecks : ℕ → ℕ → ℕ → List ℕ → List ℕ → List ℤ → List ℤ → List (ℕ × Bool)
+startDoorChecks N taps C days slots store sums =
+    tapsChecks N taps
+    ++ (9, slotsOut C)
+    ∷ (6, tablesShort days slots || (ltb (length store) (C * P N) || ltb (length sums) (P N)))
+    ∷ []
 
 unfoldable pub startDoor : ℕ → ℕ → ℕ → List ℕ → List ℕ → List ℤ → List ℤ → ℕ × List ℕ × List ℕ × List ℤ × List ℤ
 startDoor N taps C days slots store sums =
-    behind days slots (λ n. (n, days, slots, store, sums))
-    (startedOut days slots (startOutcome (recordOf N taps C days slots) N taps C store sums))
+    outcome (startDoorChecks N taps C days slots store sums) (λ n. (n, days, slots, store, sums)) (
+      0,
+      put (fresh N taps C .days) days,
+      put (fresh N taps C .table) slots,
+      clearedWide (C * P N) store,
+      clearedWide (P N) sums,
+    )
 
 -- ---- enter: and the verdict
 

@@ -7,6 +7,7 @@ use crate::verdicts::write_summary;
 use crate::verdicts::write_verdict;
 use campaign::entering::enter;
 use campaign::starting::start;
+use campaign::starting::start_refusal;
 use campaign::withdrawing::withdraw;
 use trend::answering::response;
 use trend::counting::counts;
@@ -14,6 +15,7 @@ use trend::summing::summary;
 ghost use mathlib.Core.Path.{_≡_};
 ghost use Rattle.meter.specs.Doors.{startDoor, enterDoor, withdrawDoor, countsDoor, responseDoor, summaryDoor};
 
+// A short table is room too short, so the start is refused as one that is lent no memory.
 #[no_mangle]
 pub extern "C" fn meter_start(
     order: u32,
@@ -28,7 +30,7 @@ pub extern "C" fn meter_start(
         ≡ startDoor order taps count (now (days .entry)) (now (slots .entry)) (now (store .entry)) (now (sums .entry)) ⌝ }
 {
     if tables_short(days.len(), slots.len()) {
-        return 15;
+        return start_refusal(order, taps, count, 0, 0);
     }
     let c = read_record(order, taps, count, days, slots);
     let started = start(c, order, taps, count, store, sums);

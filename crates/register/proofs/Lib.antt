@@ -9,4 +9,5 @@ pub mod Judged
 pub mod TagReturn
 mod Factors
 pub mod Divisors
+pub mod OddTaps
 pub mod Sequences

@@ -14,9 +14,17 @@ use Rattle.register.specs.Register.{step, window, Tapped, Maximal, P}
 use Rattle.register.proofs.Dot.{dot-zero, dot-comm}
 use Rattle.register.proofs.Windows.{step-inj, window-lt}
 
-step-zero : (N taps : ℕ) → step N taps 0 ≡ 0
+pub step-zero : (N taps : ℕ) → step N taps 0 ≡ 0
 unfolding step
 step-zero N taps = ap (λ (d : ℕ). (0 + d * 2 ^ N) / 2) (dot-comm taps 0 ∙ dot-zero taps) ∙ ap (λ (x : ℕ). (0 + x) / 2) (zero-mul (2 ^ N))
+
+-- where no window comes again later, no two are the same
+pub none-again : (N taps : ℕ) → ((i j : ℕ) → i < j → j < P N → window N taps i ≡ window N taps j → ⊥)
+    → (i j : ℕ) → i < P N → j < P N → window N taps i ≡ window N taps j → i ≡ j
+none-again N taps later i j hi hj e = elim (decLt i j) [
+  | yes l ↦ absurd (later i j l hj e)
+  | no a ↦ elim (decLt j i) [ yes l ↦ absurd (later j i l hi (sym e)) | no b ↦ omega arith ]
+]
 
 module _ (N taps : ℕ) (t : Tapped N taps) where
   -- two windows that are the same were the same at the start
@@ -49,10 +57,7 @@ module _ (N taps : ℕ) (t : Tapped N taps) where
         away (j - i) (omega arith) (omega arith) (back i (j - i) (e ∙ ap (window N taps) s))
 
     pub distinct : (i j : ℕ) → i < P N → j < P N → window N taps i ≡ window N taps j → i ≡ j
-    distinct i j hi hj e = elim (decLt i j) [
-      | yes l ↦ absurd (later i j l hj e)
-      | no a ↦ elim (decLt j i) [ yes l ↦ absurd (later j i l hi (sym e)) | no b ↦ omega arith ]
-    ]
+    distinct = none-again N taps later
 
     pub visits : Visits (P N) (window N taps)
     visits = record { low = λ j _. window-some j; high = λ j _. omega (arith, window-lt N taps j); apart = distinct }

@@ -1,40 +1,48 @@
 -- `meter::campaigns::meter_start` meets its contract. Assumes nothing.
 use mathlib.Core.Path.{_≡_, sym, ap, _∙_}
 use mathlib.Core.Bool.{true, false}
-use mathlib.Core.List.{List}
+use mathlib.Core.List.{List, []}
 use Prim.Native.Nat.{ℕ}
 use borrow.Author.Needs.{needs}
 use lib.IntN.{ℤ}
 use Rattle.sums.specs.Lists.{put}
+use Rattle.sums.specs.Refusals.{first}
+use Rattle.sums.proofs.First.{refused-with}
 use Rattle.records.specs.declared.Campaign.{Campaign}
 use Rattle.campaign.specs.declared.Started.{Started}
-use Rattle.campaign.specs.Calls.{startOutcome}
-use Rattle.meter.specs.Doors.{tablesShort, recordOf, startedOut, startDoor}
-use Rattle.meter.proofs.Opening.{shut, through, long}
+use Rattle.campaign.specs.Calls.{startChecks, startOutcome}
+use Rattle.meter.specs.Doors.{tablesShort, recordOf, startDoorChecks, startDoor}
+use Rattle.meter.proofs.Opening.{long}
+use Rattle.meter.proofs.Starting.{startedOut, short-refused, short-some, start-opened}
 use Rattle.meter.proofs.campaigns.meter_start.Statement.{statement}
 use Rattle.meter.proofs.campaigns.meter_start.Tie as tie
 
 module _ (N taps C : ℕ) (days slots : List ℕ) (store sums : List ℤ) where
-  refused : tablesShort days slots ≡ true → (15, days, slots, store, sums) ≡ startDoor N taps C days slots store sums
+  refused : {n : ℕ} → tablesShort days slots ≡ true → n ≡ first (startChecks N taps C [] []) → (n, days, slots, store, sums) ≡ startDoor N taps C days slots store sums
   unfolding startDoor
-  refused h = shut days slots _ _ h
+  refused {n} h e =
+      let q = e ∙ short-refused N taps C days slots store sums h in
+      sym (refused-with (λ n. (n, days, slots, store, sums)) _ (startDoorChecks N taps C days slots store sums) n q (λ z. short-some N taps C days slots store sums h (sym q ∙ z)))
 
   opened : tablesShort days slots ≡ false → {c : Campaign} {e : Started} {s u : List ℤ} {days′ slots′ : List ℕ}
       → c ≡ recordOf N taps C days slots → (e, s, u) ≡ startOutcome c N taps C store sums
       → (days′ ≡ put (e .campaign .days) days) × (slots′ ≡ put (e .campaign .table) slots)
       → (e .answer, days′, slots′, s, u) ≡ startDoor N taps C days slots store sums
-  unfolding startDoor
   opened h {e = e} {s = s} {u = u} k o (f, g) =
-      through days slots _ (startedOut days slots) {o = (e, s, u)} h (rw (f, g)) (o ∙ ap (λ c. startOutcome c N taps C store sums) k)
+      rw (f, g) (ap (startedOut days slots) (o ∙ ap (λ c. startOutcome c N taps C store sums) k) ∙ sym (start-opened N taps C days slots store sums h))
 
 tables-short-requires : tie.Need-tables-short-requires
 tables-short-requires c κs = search needs
 
+start-refusal-requires : tie.Need-start-refusal-requires
+start-refusal-requires c κs = search needs
+
 returns : tie.Need-returns
 returns c =
-    let a = c .before .before .before .before .args in
+    let t = c .before in
+    let a = t .before .before .before .before .args in
     refused (a .order) (a .taps) (a .count) (a .days .now) (a .slots .now) (a .store .now) (a .sums .now)
-    (sym (c .before .tables-short .ensures) ∙ c .if1 .taken)
+    (sym (t .before .tables-short .ensures) ∙ t .if1 .taken) (c .start-refusal .ensures)
 
 -- past the check
 wide : (c : tie.Else1) → tablesShort (c .before .before .before .before .args .days .now) (c .before .before .before .before .args .slots .now) ≡ false
@@ -76,6 +84,7 @@ meter-start-spec =
     tie.close
     (tie.spec
     tables-short-requires
+    start-refusal-requires
     returns
     read-record-requires
     start-requires

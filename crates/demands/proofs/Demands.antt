@@ -1,0 +1,349 @@
+-- The three demands, each in the user's words and then as laws, over the public definitions alone: the outcome function of each call, which its
+-- contract says it meets (docs/PROMISES.md has the table), and the runs of `history`, Run. Assumes nothing.
+--
+-- The words used. `first checks` is the number of the first check whose test holds, 0 where none does. `P N` is 2^N - 1, `window N taps k` the register
+-- after k steps from N ones, which is P N, and `wave N taps k` the signal 1 - 2·s(k). `at l j` is place j of a list, `sum n f` the sum of f 0 to f (n - 1).
+-- `run w₀ cs` is the world, a record with the memory lent, after the calls cs, the latest first. `made w₀ cs d` is what the last accepted call naming
+-- day d made it, or unseen; `heard w₀ cs d` is the last recording accepted for it; `begun w₀ cs` is the record that the last accepted start made.
+use mathlib.Core.Path.{_≡_, refl}
+use mathlib.Core.Logic.{_↔_}
+use mathlib.Core.Bool.{Bool, true, false, cond, not, _&&_}
+use mathlib.Core.List.{List, [], _∷_, _++_}
+use Prim.Native.Nat.{ℕ, _+_, _-_, _*_, _%_, _^_, _≤_, _<_}
+use native.Mathlib.Numerals.{add-one}
+use lib.Dec.{eqb, ltb}
+use lib.Count.{ones}
+use lib.IntN.{ℤ, pos, negsuc, natAbs, _-ℤ_, _*ℤ_}
+use lib.ListN.{length, getD, replicate}
+use Rattle.sums.specs.Sum.{sum, total, sign}
+use Rattle.sums.specs.Lists.{at, table, put, putAt, seek, some, every, many}
+use Rattle.sums.specs.Refusals.{first, outcome}
+use Rattle.register.specs.Register.{P, dot, step, window, bit, wave, period, Maximal}
+use Rattle.register.proofs.OddTaps.{accepted-maximal}
+use Rattle.register.specs.Calls.{orderOut, shapeChecks, tapsChecks, tapsAnswer, sequenceChecks, sequenceOutcome}
+use Rattle.defaults.specs.Calls.{defaultOutcome, defaultNumber}
+use Rattle.defaults.specs.declared.DefaultTaps.the-variants as default
+use Rattle.player.specs.Calls.{newOutcome, stepChecks, stepOutcome, playOutcome, newNumber, tickNumber}
+use Rattle.player.specs.declared.Player.{Player}
+use Rattle.player.specs.declared.NewPlayer.the-variants as new
+use Rattle.player.specs.declared.Tick.the-variants as tick
+use Rattle.player.specs.declared.Stepped.{Stepped}
+use Rattle.player.specs.declared.Played.{Played}
+use Rattle.response.specs.Response as formula
+use Rattle.response.specs.Calls.{recordingChecks, recordingOutcome, predictionChecks, predictionOutcome}
+use Rattle.rounding.specs.Rounding.{nearest}
+use Rattle.records.specs.Record.{unseen, standing, overloaded, dead, withdrawn, state, stands, daysIn, together, apart, fresh}
+use Rattle.records.proofs.Refiling.{Day}
+use Rattle.records.specs.declared.Campaign.{Campaign}
+use Rattle.campaign.specs.Calls.{startChecks, startOutcome, enterChecks, railPlace, still, entered, enterOutcome, withdrawChecks, withdrawOutcome, verdictNumber}
+use Rattle.campaign.specs.declared.Started.{Started}
+use Rattle.campaign.specs.declared.Entered.{Entered}
+use Rattle.campaign.specs.declared.Withdrawn.{Withdrawn}
+use Rattle.campaign.specs.declared.Verdict.the-variants as verdict
+use Rattle.trend.specs.Calls.{countsOutcome, countsNumber, responseChecks, responseOutcome, summaryChecks, summaryOutcome, summaryNumber}
+use Rattle.trend.specs.declared.Counts.the-variants as counts
+use Rattle.trend.specs.declared.Summary.{Summary}
+use Rattle.trend.specs.declared.Summary.the-variants as summary
+use Rattle.history.specs.Run.{World, Call, after, answer, run, underWay, begun, makes, made, heard, Elsewhere}
+use Rattle.history.specs.Run as call
+use Rattle.history.proofs.UnderWay.{from-start}
+use Rattle.history.proofs.EveryRun as every-run
+use Rattle.history.proofs.AsIf as as-if
+use Rattle.demands.specs.Buffers.{KeepsTail}
+use Rattle.demands.proofs.Checking.{answers-first, refused-same, either-0, entry-answers-first, entry-refused-same, refused-leaves}
+use Rattle.demands.proofs.Tails.{sequence-tail, recording-tails, prediction-tail, start-tails, enter-tails, withdraw-tails, response-tails, summary-tails}
+use Rattle.demands.proofs.Measuring.{sequence-at, response-at, response-small, prediction-at}
+
+-- ---- 1. "Every public call ends, on all inputs, with an answer. It refuses for the causes listed in document 01, in the order given there, and for
+-- no other. A refused call changes nothing in the caller's memory or record."
+--
+-- A function with a proved contract ends, and each contract is an equation to the outcome function named here. `advance` has step's and `fill` play's.
+
+-- the numbers of a list of checks
+abbrev pub numbers : List (ℕ × Bool) → List ℕ
+numbers [] = []
+numbers (check ∷ checks) = check .0 ∷ numbers checks
+
+-- the checks come in this order; the answer's number is that of the first whose test holds, 0 where none does; a refused call hands back what came in
+pub record Checked {A : Type 0} (order : List ℕ) (checks : List (ℕ × Bool)) (number : A → ℕ) (back : ℕ → A) (o : A) : Type 0 where
+  pub in-order : numbers checks ≡ order
+  pub answer : number o ≡ first checks
+  pub unchanged : (number o ≡ 0 → ⊥) → o ≡ back (number o)
+
+-- enter: 15, 10, 5, 7, 11, verdict, 12: the verdict is kept and C days stand
+abbrev pub enterAll : Campaign → List ℤ → List ℤ → ℕ → List ℤ → List (ℕ × Bool)
+enterAll c store sums d y =
+    enterChecks c store sums d y
+    ++ (12, (not (ltb (railPlace y) (length y)) && not (still y)) && eqb (daysIn c standing) (c .slots))
+    ∷ []
+
+pub record Refusals : Type 0 where
+  pub taps-check : (N taps : ℕ) → Checked (1 ∷ 2 ∷ 3 ∷ 4 ∷ []) (tapsChecks N taps) (λ (n : ℕ). n) (λ n. n) (tapsAnswer N taps)
+  pub sequence : (N taps : ℕ) (out : List ℕ)
+      → Checked (1 ∷ 2 ∷ 3 ∷ 4 ∷ 6 ∷ []) (sequenceChecks N taps out) (λ (o : ℕ × List ℕ). o .0) (λ n. (n, out)) (sequenceOutcome N taps out)
+  pub new-player : (N taps : ℕ) → Checked (1 ∷ 2 ∷ 3 ∷ []) (shapeChecks N taps) newNumber new.Refused (newOutcome N taps)
+  pub step : (p : Player)
+      → Checked (1 ∷ 2 ∷ 3 ∷ 16 ∷ []) (stepChecks p) (λ (s : Stepped). tickNumber (s .tick)) (λ n. record { tick = tick.Refused n; player = p }) (stepOutcome p)
+  pub play : (p : Player) (signs : List ℤ)
+      → Checked (1 ∷ 2 ∷ 3 ∷ 16 ∷ []) (stepChecks p) (λ (o : Played × List ℤ). o .0 .answer) (λ n. (record { answer = n; player = p }, signs)) (playOutcome p signs)
+  pub recording : (N taps : ℕ) (y out room : List ℤ) (tags : List ℕ)
+      → Checked (1 ∷ 2 ∷ 3 ∷ 4 ∷ 5 ∷ 6 ∷ 7 ∷ []) (recordingChecks N taps y out room tags) (λ (o : ℕ × List ℤ × List ℤ × List ℕ). o .0)
+      (λ n. (n, out, room, tags)) (recordingOutcome N taps y out room tags)
+  pub prediction : (N taps : ℕ) (h out : List ℤ)
+      → Checked (1 ∷ 2 ∷ 3 ∷ 4 ∷ 5 ∷ 6 ∷ 7 ∷ 8 ∷ []) (predictionChecks N taps h out) (λ (o : ℕ × List ℤ). o .0) (λ n. (n, out)) (predictionOutcome N taps h out)
+  pub default-taps : (N : ℕ) → Checked (1 ∷ []) ((1, orderOut N) ∷ []) defaultNumber default.Refused (defaultOutcome N)
+  pub start : (c : Campaign) (N taps C : ℕ) (store sums : List ℤ)
+      → Checked (1 ∷ 2 ∷ 3 ∷ 4 ∷ 9 ∷ 6 ∷ []) (startChecks N taps C store sums) (λ (o : Started × List ℤ × List ℤ). o .0 .answer)
+      (λ n. (record { answer = n; campaign = c }, store, sums)) (startOutcome c N taps C store sums)
+  pub enter : (c : Campaign) (store sums : List ℤ) (d : ℕ) (y : List ℤ)
+      → Checked (15 ∷ 10 ∷ 5 ∷ 7 ∷ 11 ∷ 12 ∷ []) (enterAll c store sums d y) (λ (o : Entered × List ℤ × List ℤ). verdictNumber (o .0 .entry .verdict))
+      (λ n. (entered c d (verdict.Refused n), store, sums)) (enterOutcome c store sums d y)
+  pub withdraw : (c : Campaign) (store sums : List ℤ) (d : ℕ)
+      → Checked (15 ∷ 10 ∷ 13 ∷ []) (withdrawChecks c store sums d) (λ (o : Withdrawn × List ℤ × List ℤ). o .0 .answer)
+      (λ n. (record { answer = n; campaign = c }, store, sums)) (withdrawOutcome c store sums d)
+  pub counts : (c : Campaign) (store sums : List ℤ)
+      → Checked (15 ∷ []) ((15, apart c store sums) ∷ []) countsNumber counts.Refused (countsOutcome c store sums)
+  pub response : (c : Campaign) (store sums r mean room : List ℤ) (tags : List ℕ)
+      → Checked (15 ∷ 6 ∷ 14 ∷ []) (responseChecks c store sums r mean room tags) (λ (o : ℕ × List ℤ × List ℤ × List ℤ × List ℕ). o .0)
+      (λ n. (n, r, mean, room, tags)) (responseOutcome c store sums r mean room tags)
+  pub summary : (c : Campaign) (store sums room : List ℤ) (tags : List ℕ)
+      → Checked (15 ∷ 6 ∷ []) (summaryChecks c store sums room tags) (λ (o : Summary × List ℤ × List ℕ). summaryNumber (o .0))
+      (λ n. (summary.Refused n, room, tags)) (summaryOutcome c store sums room tags)
+
+-- document 01: "longer buffers keep their tails", accepted or refused (`KeepsTail n`: beyond its first n places a buffer is as it was)
+pub record Tails : Type 0 where
+  pub sequence : (N taps : ℕ) (out : List ℕ) → KeepsTail (P N) out (sequenceOutcome N taps out .1)
+  pub recording : (N taps : ℕ) (y out room : List ℤ) (tags : List ℕ) → let o = recordingOutcome N taps y out room tags in
+      KeepsTail (P N) out (o .1) × KeepsTail (P N + 1) room (o .2) × KeepsTail (2 * P N) tags (o .3)
+  pub prediction : (N taps : ℕ) (h out : List ℤ) → KeepsTail (P N) out (predictionOutcome N taps h out .1)
+  pub start : (c : Campaign) (N taps C : ℕ) (store sums : List ℤ) → let o = startOutcome c N taps C store sums in
+      KeepsTail (C * P N) store (o .1) × KeepsTail (P N) sums (o .2)
+  pub enter : (c : Campaign) (store sums : List ℤ) (d : ℕ) (y : List ℤ) → let o = enterOutcome c store sums d y in
+      KeepsTail (c .slots * P (c .order)) store (o .1) × KeepsTail (P (c .order)) sums (o .2)
+  pub withdraw : (c : Campaign) (store sums : List ℤ) (d : ℕ) → let o = withdrawOutcome c store sums d in
+      KeepsTail (c .slots * P (c .order)) store (o .1) × KeepsTail (P (c .order)) sums (o .2)
+  pub response : (c : Campaign) (store sums r mean room : List ℤ) (tags : List ℕ) → let o = responseOutcome c store sums r mean room tags in
+      KeepsTail (P (c .order)) r (o .1) × KeepsTail (P (c .order)) mean (o .2) × KeepsTail (P (c .order) + 1) room (o .3)
+      × KeepsTail (2 * P (c .order)) tags (o .4)
+  pub summary : (c : Campaign) (store sums room : List ℤ) (tags : List ℕ) → let o = summaryOutcome c store sums room tags in
+      KeepsTail (P (c .order) + 1) room (o .1) × KeepsTail (2 * P (c .order)) tags (o .2)
+
+pub checked : {A : Type 0} (order : List ℕ) (checks : List (ℕ × Bool)) (number : A → ℕ) (back : ℕ → A) (accepted : A)
+    → numbers checks ≡ order → ((n : ℕ) → number (back n) ≡ n) → number accepted ≡ 0 → Checked order checks number back (outcome checks back accepted)
+checked order checks number back accepted e told none =
+    record {
+      in-order = e;
+      answer = answers-first checks number back accepted told none;
+      unchanged = refused-same checks number back accepted told none;
+    }
+
+pub demand-1 : Refusals × Tails
+unfolding tapsAnswer sequenceOutcome defaultOutcome newOutcome stepOutcome playOutcome recordingOutcome predictionOutcome startOutcome withdrawOutcome countsOutcome responseOutcome summaryOutcome
+demand-1 = (
+  record {
+    taps-check = λ N taps. record { in-order = refl; answer = refl; unchanged = λ _. refl };
+    sequence = λ N taps out. checked _ _ _ _ _ refl (λ n. refl) refl;
+    new-player = λ N taps. checked _ _ _ _ _ refl (λ n. refl) refl;
+    step = λ p. checked _ _ _ _ _ refl (λ n. refl) refl;
+    play = λ p signs. checked _ _ _ _ _ refl (λ n. refl) refl;
+    recording = λ N taps y out room tags. checked _ _ _ _ _ refl (λ n. refl) refl;
+    prediction = λ N taps h out. checked _ _ _ _ _ refl (λ n. refl) refl;
+    default-taps = λ N. checked _ _ _ _ _ refl (λ n. refl) refl;
+    start = λ c N taps C store sums. checked _ _ _ _ _ refl (λ n. refl) refl;
+    enter = λ c store sums d y.
+        record { in-order = refl; answer = entry-answers-first c store sums d y; unchanged = entry-refused-same c store sums d y };
+    withdraw = λ c store sums d. checked _ _ _ _ _ refl (λ n. refl) refl;
+    counts = λ c store sums. checked _ _ _ _ _ refl (λ n. refl) refl;
+    response = λ c store sums r mean room tags. checked _ _ _ _ _ refl (λ n. refl) refl;
+    summary = λ c store sums room tags. checked _ _ _ _ _ refl (λ n. refl) (either-0 (λ (o : Summary × List ℤ × List ℕ). summaryNumber (o .0)) (eqb (daysIn c standing) 0) _ _ refl refl);
+  },
+  record {
+    sequence = sequence-tail;
+    recording = recording-tails;
+    prediction = prediction-tail;
+    start = start-tails;
+    enter = enter-tails;
+    withdraw = withdraw-tails;
+    response = response-tails;
+    summary = summary-tails;
+  },
+)
+
+-- ---- 2. "Taps for N stages, N from 2 to 16, are accepted exactly when the register, started at all ones, first returns there after P = 2^N - 1 steps.
+-- The response at shift k equals the direct circular cross-correlation of recording and sequence, less the sum of the recording, as document 002
+-- defines it before its last division, exact, with no overflow. A predicted recording equals the circular convolution of the given response with the
+-- sequence."
+--
+-- Indices count modulo P: x(j-k) is `wave` at (j + (P - k)) % P. That nothing overflows on the way either is part of each function's proof.
+
+pub record Measures : Type 0 where
+  -- `Maximal`: the window is P N again after P N steps, and after no fewer
+  pub taps-check : (N taps : ℕ) → 2 ≤ N → N ≤ 16 → taps < 2 ^ N → (tapsAnswer N taps ≡ 0) ↔ Maximal N taps
+  pub sequence : (N taps : ℕ) (out : List ℕ) → sequenceOutcome N taps out .0 ≡ 0
+      → (k : ℕ) → k < P N → getD (sequenceOutcome N taps out .1) k 0 ≡ window N taps k % 2
+  pub recording : (N taps : ℕ) (y out room : List ℤ) (tags : List ℕ) → let o = recordingOutcome N taps y out room tags in o .0 ≡ 0
+      → (k : ℕ) → k < P N → at (o .1) k ≡ sum (P N) (λ j. at y j *ℤ wave N taps ((j + (P N - k)) % P N)) -ℤ sum (P N) (at y)
+  pub no-overflow : (N taps : ℕ) (y out room : List ℤ) (tags : List ℕ) → let o = recordingOutcome N taps y out room tags in o .0 ≡ 0
+      → (k : ℕ) → k < P N → natAbs (at (o .1) k) ≤ 2 ^ 39
+  pub prediction : (N taps : ℕ) (h out : List ℤ) → let o = predictionOutcome N taps h out in o .0 ≡ 0
+      → (j : ℕ) → j < P N → at (o .1) j ≡ sum (P N) (λ i. at h i *ℤ wave N taps ((j + (P N - i)) % P N))
+
+pub demand-2 : Measures
+unfolding formula.response formula.correlation formula.prediction bit
+demand-2 =
+    record {
+      taps-check = accepted-maximal;
+      sequence = sequence-at;
+      recording = response-at;
+      no-overflow = response-small;
+      prediction = prediction-at;
+    }
+
+-- ---- 3. "After any run of calls from a fresh campaign, refused ones included and its lent memory untouched between, each day's state is what the last
+-- accepted call naming that day made it, or unseen if there was none. The sums total, place by place, the last recordings accepted for exactly the days
+-- then standing. If at least one day stands, and each such recording is the circular convolution of a whole-number response with the sequence, the
+-- answer at every place is exactly P + 1 times the sum of those responses there."
+--
+-- The calls `cs`, the latest first, lead from w₀, a record and memory that may hold anything, to w. A start may come again: refused, the campaign goes
+-- on; accepted, it names every day, and a new campaign begins. The order, taps and slot count are those of the last accepted start (`begun`).
+
+pub record Said (w₀ : World) (cs : List Call) (w : World) : Type 0 where
+  pub each-day : (d : ℕ) → 1 ≤ d → d ≤ 366 → state (w .campaign) d ≡ made w₀ cs d
+  pub sums : (j : ℕ) → j < P (begun w₀ cs .order)
+      → at (w .sums) j ≡ sum 366 (λ i. cond (eqb (made w₀ cs (i + 1)) standing) (at (heard w₀ cs (i + 1)) j) (pos 0))
+  pub response : let N = begun w₀ cs .order in (h : ℕ → ℕ → ℤ)
+      → ((d : ℕ) → 1 ≤ d → d ≤ 366 → made w₀ cs d ≡ standing → (j : ℕ) → j < P N
+      → at (heard w₀ cs d) j ≡ sum (P N) (λ i. h d i *ℤ wave N (begun w₀ cs .taps) ((j + (P N - i)) % P N)))
+      → (d : ℕ) → 1 ≤ d → d ≤ 366 → made w₀ cs d ≡ standing
+      → (r mean room : List ℤ) (tags : List ℕ) → P N ≤ length r → P N ≤ length mean → P N + 1 ≤ length room → 2 * P N ≤ length tags
+      → let o = responseOutcome (w .campaign) (w .store) (w .sums) r mean room tags in
+      (o .0 ≡ 0)
+      × ((k : ℕ) → k < P N → at (o .1) k ≡ pos (P N + 1) *ℤ sum 366 (λ i. cond (eqb (made w₀ cs (i + 1)) standing) (h (i + 1) k) (pos 0)))
+  -- and what document 01 adds
+  pub order : w .campaign .order ≡ begun w₀ cs .order
+  pub taps : w .campaign .taps ≡ begun w₀ cs .taps
+  pub slots : w .campaign .slots ≡ begun w₀ cs .slots
+  pub holds : together (w .campaign) (w .store) (w .sums) ≡ true
+  pub no-fifteen : (call : Call) → answer w call ≡ 15 → ⊥
+  pub refused : (call : Call) → (answer w call ≡ 0 → ⊥) → after w call ≡ w
+  pub counts : let days : ℕ → ℕ = λ q. many 366 (λ i. eqb (made w₀ cs (i + 1)) q) in countsOutcome (w .campaign) (w .store) (w .sums)
+      ≡ counts.Counted (record {
+        unseen = days unseen;
+        standing = days standing;
+        overloaded = days overloaded;
+        dead = days dead;
+        withdrawn = days withdrawn;
+      })
+
+-- of every run in which a start was accepted
+pub said : (w₀ : World) (cs : List Call) → underWay w₀ cs ≡ true → Said w₀ cs (run w₀ cs)
+unfolding every-run.daysMade every-run.total formula.prediction
+said w₀ cs u =
+    record {
+      each-day = λ d a b. every-run.each-day w₀ cs u d (record { first = a; last = b });
+      sums = every-run.sums-are w₀ cs u;
+      response = λ h v d a b e r mean room tags l1 l2 l3 l4.
+          rw (add-one (P (begun w₀ cs .order)))
+          (every-run.recovered w₀ cs u h (λ d y. v d (y .first) (y .last)) d (record { first = a; last = b }) e r mean room tags
+          (record { r-long = l1; mean-long = l2; room-long = l3; tags-long = l4 }));
+      order = every-run.same-order w₀ cs u .0;
+      taps = every-run.same-order w₀ cs u .1;
+      slots = every-run.same-order w₀ cs u .2;
+      holds = every-run.holds w₀ cs u;
+      no-fifteen = every-run.no-fifteen w₀ cs u;
+      refused = refused-leaves (run w₀ cs);
+      counts = every-run.counts-are w₀ cs u;
+    }
+
+-- so of every run that begins with an accepted start
+pub demand-3 : (w₀ : World) (N taps C : ℕ) → startOutcome (w₀ .campaign) N taps C (w₀ .store) (w₀ .sums) .0 .answer ≡ 0
+    → (cs : List Call) → let all = cs ++ call.start N taps C ∷ [] in Said w₀ all (run w₀ all)
+demand-3 w₀ N taps C e cs = said _ _ (from-start w₀ N taps C e cs)
+
+-- ---- Document 01: "A kept entry followed at once by its withdrawal gives back store, sums and slots bit for bit. With calls on other days between, the sums
+-- and the set of standing days are as if it had not come, provided none of those calls was refused with 12; slots may differ."
+--
+-- `makes` is what an accepted call makes of its day: standing, so the entry is kept. `Elsewhere`: the calls between name other days than d, and none of
+-- them is refused with 12.
+
+pub record TakenBack (w₀ : World) (cs : List Call) (d : ℕ) (y : List ℤ) : Type 0 where
+  pub at-once : let w = run w₀ (call.withdraw d ∷ call.enter d y ∷ cs) in
+      (w .store ≡ run w₀ cs .store) × (w .sums ≡ run w₀ cs .sums) × (w .campaign .table ≡ run w₀ cs .campaign .table)
+  pub as-if : (between : List Call) → Elsewhere w₀ d (call.enter d y ∷ cs) between
+      → let with-it = run w₀ (call.withdraw d ∷ between ++ call.enter d y ∷ cs) in
+      let without-it = run w₀ (between ++ cs) in
+      (answer (run w₀ (between ++ call.enter d y ∷ cs)) (call.withdraw d) ≡ 0)
+      × ((j : ℕ) → j < P (begun w₀ cs .order) → at (with-it .sums) j ≡ at (without-it .sums) j)
+      × ((e : ℕ) → 1 ≤ e → e ≤ 366 → stands (with-it .campaign) e ≡ stands (without-it .campaign) e)
+
+pub taken-back : (w₀ : World) (cs : List Call) → underWay w₀ cs ≡ true → (d : ℕ) → 1 ≤ d → d ≤ 366 → (y : List ℤ)
+    → answer (run w₀ cs) (call.enter d y) ≡ 0 → makes (call.enter d y) ≡ standing → TakenBack w₀ cs d y
+unfolding run
+taken-back w₀ cs u d a b y e k =
+    let r : Day d = record { first = a; last = b } in
+    let o = as-if.at-once w₀ cs u d y r e k in
+    record {
+      at-once = (o .store, o .sums, o .slots);
+      as-if = λ between n.
+          let s = as-if.as-if w₀ cs u d y r e k between n in (
+            s .0,
+            s .1 .sums,
+            λ i l h. s .1 .days i (record { first = l; last = h }),
+          );
+    }
+
+-- ---- It is about something: order 2, taps 3, two slots, on memory that held nines; two nights, the first withdrawn; computed.
+
+abbrev lent : World
+lent = record { campaign = fresh 3 5 1; store = replicate 7 (pos 9); sums = replicate 4 (pos 9) }
+
+-- the convolutions of 2, 0, -1 and of 1, 0, 0 with the sequence 1, 1, 0
+abbrev night-1 : List ℤ
+night-1 = negsuc 0 ∷ negsuc 2 ∷ pos 3 ∷ []
+
+abbrev night-2 : List ℤ
+night-2 = negsuc 0 ∷ negsuc 0 ∷ pos 1 ∷ []
+
+abbrev nights : List Call
+nights = call.enter 2 night-2 ∷ call.enter 1 night-1 ∷ call.start 2 3 2 ∷ []
+
+abbrev asked : World → ℕ × List ℤ × List ℤ × List ℤ × List ℕ
+asked w = responseOutcome (w .campaign) (w .store) (w .sums) (replicate 3 (pos 9)) (replicate 3 (pos 9)) (replicate 4 (pos 9)) (replicate 6 9)
+
+pub record Witness : Type 0 where
+  pub started : startOutcome (lent .campaign) 2 3 2 (lent .store) (lent .sums) .0 .answer ≡ 0
+  pub under-way : underWay lent (call.withdraw 1 ∷ nights) ≡ true
+  pub first-night : answer (run lent (call.start 2 3 2 ∷ [])) (call.enter 1 night-1) ≡ 0
+  pub second-night : answer (run lent (call.enter 1 night-1 ∷ call.start 2 3 2 ∷ [])) (call.enter 2 night-2) ≡ 0
+  pub both-sums : run lent nights .sums ≡ negsuc 1 ∷ negsuc 3 ∷ pos 4 ∷ pos 9 ∷ []
+  pub both : asked (run lent nights)
+      ≡ (0, pos 12 ∷ pos 0 ∷ negsuc 3 ∷ [], pos 2 ∷ pos 0 ∷ negsuc 0 ∷ [], replicate 4 (pos 0), replicate 6 0)
+  pub withdrawal : answer (run lent nights) (call.withdraw 1) ≡ 0
+  pub days : (made lent (call.withdraw 1 ∷ nights) 1 ≡ withdrawn) × (made lent (call.withdraw 1 ∷ nights) 2 ≡ standing)
+      × (made lent (call.withdraw 1 ∷ nights) 3 ≡ unseen)
+  pub store : run lent (call.withdraw 1 ∷ nights) .store ≡ pos 0 ∷ pos 0 ∷ pos 0 ∷ negsuc 0 ∷ negsuc 0 ∷ pos 1 ∷ pos 9 ∷ []
+  pub sums : run lent (call.withdraw 1 ∷ nights) .sums ≡ negsuc 0 ∷ negsuc 0 ∷ pos 1 ∷ pos 9 ∷ []
+  pub second : asked (run lent (call.withdraw 1 ∷ nights)) ≡ (0, pos 4 ∷ pos 0 ∷ pos 0 ∷ [], pos 1 ∷ pos 0 ∷ pos 0 ∷ [], replicate 4 (pos 0), replicate 6 0)
+  -- a refused start leaves the campaign, an accepted one begins another
+  pub refused-start : (answer (run lent nights) (call.start 17 3 2) ≡ 1) × (run lent (call.start 17 3 2 ∷ nights) ≡ run lent nights)
+  pub new-start : (answer (run lent nights) (call.start 2 3 1) ≡ 0) × (made lent (call.start 2 3 1 ∷ nights) 2 ≡ unseen)
+      × (run lent (call.start 2 3 1 ∷ nights) .sums ≡ pos 0 ∷ pos 0 ∷ pos 0 ∷ pos 9 ∷ [])
+
+pub witness : Witness
+unfolding run made underWay startOutcome enterOutcome withdrawOutcome responseOutcome together tapsAnswer period seek some every many total sum sign table put putAt nearest formula.response formula.correlation wave bit window step dot ones
+witness =
+    record {
+      started = refl;
+      under-way = refl;
+      first-night = refl;
+      second-night = refl;
+      both-sums = refl;
+      both = refl;
+      withdrawal = refl;
+      days = (refl, refl, refl);
+      store = refl;
+      sums = refl;
+      second = refl;
+      refused-start = (refl, refl);
+      new-start = (refl, refl, refl);
+    }

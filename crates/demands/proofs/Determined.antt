@@ -1,0 +1,82 @@
+-- Any two outcomes that a door's contract permits are equal: for each `meter_…`, what its contract tells of two ends of one call makes the answers
+-- equal, and all that was lent. Assumes nothing.
+use mathlib.Core.Path.{sym, _∙_}
+use mathlib.Core.List.{List}
+use Prim.Native.Nat.{ℕ}
+use denote.Ref.{now}
+use lib.IntN.{ℤ}
+use Rattle.player.specs.declared.Player.{Player}
+use Rattle.trend.specs.declared.Tally.{Tally}
+use Rattle.trend.specs.declared.Levels.{Levels}
+use Rattle.history.proofs.Determined.{Determined}
+use Rattle.meter.specs.Players.{playerOf}
+use Rattle.meter.proofs.registers.meter_taps.Kinds as taps-kinds
+use Rattle.meter.proofs.registers.meter_taps.Reads as taps
+use Rattle.meter.proofs.registers.meter_default_taps.Kinds as default-taps-kinds
+use Rattle.meter.proofs.registers.meter_default_taps.Reads as default-taps
+use Rattle.meter.proofs.registers.meter_sequence.Kinds as sequence-kinds
+use Rattle.meter.proofs.registers.meter_sequence.Reads as sequence
+use Rattle.meter.proofs.registers.meter_player_new.Kinds as player-new-kinds
+use Rattle.meter.proofs.registers.meter_player_new.Reads as player-new
+use Rattle.meter.proofs.registers.meter_player_step.Kinds as player-step-kinds
+use Rattle.meter.proofs.registers.meter_player_step.Reads as player-step
+use Rattle.meter.proofs.registers.meter_player_play.Kinds as player-play-kinds
+use Rattle.meter.proofs.registers.meter_player_play.Reads as player-play
+use Rattle.meter.proofs.recordings.meter_recording.Kinds as recording-kinds
+use Rattle.meter.proofs.recordings.meter_recording.Reads as recording
+use Rattle.meter.proofs.recordings.meter_predict.Kinds as predict-kinds
+use Rattle.meter.proofs.recordings.meter_predict.Reads as predict
+use Rattle.meter.proofs.campaigns.meter_start.Kinds as start-kinds
+use Rattle.meter.proofs.campaigns.meter_start.Reads as start
+use Rattle.meter.proofs.campaigns.meter_enter.Kinds as enter-kinds
+use Rattle.meter.proofs.campaigns.meter_enter.Reads as enter
+use Rattle.meter.proofs.campaigns.meter_withdraw.Kinds as withdraw-kinds
+use Rattle.meter.proofs.campaigns.meter_withdraw.Reads as withdraw
+use Rattle.meter.proofs.campaigns.meter_counts.Kinds as counts-kinds
+use Rattle.meter.proofs.campaigns.meter_counts.Reads as counts
+use Rattle.meter.proofs.campaigns.meter_response.Kinds as response-kinds
+use Rattle.meter.proofs.campaigns.meter_response.Reads as response
+use Rattle.meter.proofs.campaigns.meter_summary.Kinds as summary-kinds
+use Rattle.meter.proofs.campaigns.meter_summary.Reads as summary
+
+pub taps-determined : Determined 0 taps-kinds.ps taps-kinds.r ℕ taps.Learnt (λ κs r s. r)
+taps-determined κs a x y s t p q = p ∙ sym q
+
+pub default-taps-determined : Determined 1 default-taps-kinds.ps default-taps-kinds.r (ℕ × ℕ) default-taps.Learnt (λ κs r s. (r, now (s .1 .0)))
+default-taps-determined κs a x y s t p q = p ∙ sym q
+
+pub sequence-determined : Determined 1 sequence-kinds.ps sequence-kinds.r (ℕ × List ℕ) sequence.Learnt (λ κs r s. (r, now (s .1 .1 .0)))
+sequence-determined κs a x y s t p q = p ∙ sym q
+
+pub player-new-determined : Determined 4 player-new-kinds.ps player-new-kinds.r (ℕ × Player) player-new.Learnt (λ κs r s. (r, playerOf (now (s .1 .1 .0)) (now (s .1 .1 .1 .0)) (now (s .1 .1 .1 .1 .0)) (now (s .1 .1 .1 .1 .1 .0))))
+player-new-determined κs a x y s t p q = p ∙ sym q
+
+pub player-step-determined : Determined 5 player-step-kinds.ps player-step-kinds.r (ℕ × Player × ℤ) player-step.Learnt (λ κs r s. (r, playerOf (now (s .0)) (now (s .1 .0)) (now (s .1 .1 .0)) (now (s .1 .1 .1 .0)), now (s .1 .1 .1 .1 .0)))
+player-step-determined κs a x y s t p q = p ∙ sym q
+
+pub player-play-determined : Determined 5 player-play-kinds.ps player-play-kinds.r (ℕ × Player × List ℤ) player-play.Learnt (λ κs r s. (r, playerOf (now (s .0)) (now (s .1 .0)) (now (s .1 .1 .0)) (now (s .1 .1 .1 .0)), now (s .1 .1 .1 .1 .0)))
+player-play-determined κs a x y s t p q = p ∙ sym q
+
+pub recording-determined : Determined 4 recording-kinds.ps recording-kinds.r (ℕ × List ℤ × List ℤ × List ℕ) recording.Learnt (λ κs r s. (r, now (s .1 .1 .1 .0), now (s .1 .1 .1 .1 .0), now (s .1 .1 .1 .1 .1 .0)))
+recording-determined κs a x y s t p q = p ∙ sym q
+
+pub predict-determined : Determined 2 predict-kinds.ps predict-kinds.r (ℕ × List ℤ) predict.Learnt (λ κs r s. (r, now (s .1 .1 .1 .0)))
+predict-determined κs a x y s t p q = p ∙ sym q
+
+pub start-determined : Determined 4 start-kinds.ps start-kinds.r (ℕ × List ℕ × List ℕ × List ℤ × List ℤ) start.Learnt (λ κs r s. (r, now (s .1 .1 .1 .0), now (s .1 .1 .1 .1 .0), now (s .1 .1 .1 .1 .1 .0), now (s .1 .1 .1 .1 .1 .1 .0)))
+start-determined κs a x y s t p q = p ∙ sym q
+
+pub enter-determined : Determined 7 enter-kinds.ps enter-kinds.r (ℕ × List ℕ × List ℕ × List ℤ × List ℤ × ℕ × ℕ) enter.Learnt (λ κs r s. (r, now (s .1 .1 .1 .0), now (s .1 .1 .1 .1 .0), now (s .1 .1 .1 .1 .1 .0), now (s .1 .1 .1 .1 .1 .1 .0), now (s .1 .1 .1 .1 .1 .1 .1 .1 .1 .0), now (s .1 .1 .1 .1 .1 .1 .1 .1 .1 .1 .0)))
+enter-determined κs a x y s t p q = p ∙ sym q
+
+pub withdraw-determined : Determined 4 withdraw-kinds.ps withdraw-kinds.r (ℕ × List ℕ × List ℕ × List ℤ × List ℤ) withdraw.Learnt (λ κs r s. (r, now (s .1 .1 .1 .0), now (s .1 .1 .1 .1 .0), now (s .1 .1 .1 .1 .1 .0), now (s .1 .1 .1 .1 .1 .1 .0)))
+withdraw-determined κs a x y s t p q = p ∙ sym q
+
+pub counts-determined : Determined 9 counts-kinds.ps counts-kinds.r (ℕ × Tally) counts.Learnt (λ κs r s. (r, record { unseen = now (s .1 .1 .1 .1 .1 .1 .1 .0); standing = now (s .1 .1 .1 .1 .1 .1 .1 .1 .0); overloaded = now (s .1 .1 .1 .1 .1 .1 .1 .1 .1 .0); dead = now (s .1 .1 .1 .1 .1 .1 .1 .1 .1 .1 .0); withdrawn = now (s .1 .1 .1 .1 .1 .1 .1 .1 .1 .1 .1 .0) }))
+counts-determined κs a x y s t p q = p ∙ sym q
+
+pub response-determined : Determined 8 response-kinds.ps response-kinds.r (ℕ × List ℤ × List ℤ × List ℤ × List ℕ) response.Learnt (λ κs r s. (r, now (s .1 .1 .1 .1 .1 .1 .1 .0), now (s .1 .1 .1 .1 .1 .1 .1 .1 .0), now (s .1 .1 .1 .1 .1 .1 .1 .1 .1 .0), now (s .1 .1 .1 .1 .1 .1 .1 .1 .1 .1 .0)))
+response-determined κs a x y s t p q = p ∙ sym q
+
+pub summary-determined : Determined 10 summary-kinds.ps summary-kinds.r (ℕ × List ℤ × List ℕ × ℕ × Levels) summary.Learnt (λ κs r s. (r, now (s .1 .1 .1 .1 .1 .1 .1 .0), now (s .1 .1 .1 .1 .1 .1 .1 .1 .0), now (s .1 .1 .1 .1 .1 .1 .1 .1 .1 .0), record { highest = now (s .1 .1 .1 .1 .1 .1 .1 .1 .1 .1 .0); lowest = now (s .1 .1 .1 .1 .1 .1 .1 .1 .1 .1 .1 .0); peak = now (s .1 .1 .1 .1 .1 .1 .1 .1 .1 .1 .1 .1 .0) }))
+summary-determined κs a x y s t p q = p ∙ sym q

@@ -1,0 +1,290 @@
+-- The C door inherits the demands: a sequence of door calls on the same lent tables and memory is a run of the library's calls, world and answers,
+-- so the third demand holds of a C caller. Assumes nothing.
+use mathlib.Core.Path.{_≡_, refl, sym, ap, ap₂, subst, _∙_}
+use mathlib.Core.Bool.{Bool, true, false, cond}
+use mathlib.Core.List.{List, [], _∷_, _++_}
+use Prim.Native.Nat.{ℕ, zero, suc, _*_, _≤_}
+use native.Mathlib.Omega.{arith}
+use borrow.Author.Tests.{le-ltb}
+use lib.Dec.{eqb, ltb}
+use lib.IntN.{ℤ}
+use lib.ListN.{length, take, drop, length-set, length-replicate}
+use lib.Seq.{length-take-le}
+use Rattle.sums.specs.Lists.{put}
+use Rattle.sums.specs.Refusals.{first, answered}
+use Rattle.sums.proofs.Tables.{length-put}
+use Rattle.register.specs.Register.{P}
+use Rattle.response.specs.Calls.{clearedWide}
+use Rattle.records.specs.Record.{standing, daysIn, fresh}
+use Rattle.records.specs.declared.Campaign.{Campaign}
+use Rattle.campaign.specs.Calls.{startChecks, startOutcome, enterChecks, entered, railPlace, still, enterOutcome, withdrawChecks, withdrawOutcome}
+use Rattle.campaign.specs.declared.Started.{Started}
+use Rattle.campaign.specs.declared.Entered.{Entered}
+use Rattle.campaign.specs.declared.Withdrawn.{Withdrawn}
+use Rattle.campaign.specs.declared.Verdict.the-variants as verdict
+use Rattle.trend.specs.Calls.{responseOutcome, summaryOutcome, countsOutcome}
+use Rattle.trend.specs.declared.Tally.{Tally}
+use Rattle.trend.specs.declared.Levels.{Levels}
+use Rattle.history.specs.Run.{World, after, answer, run}
+use Rattle.meter.specs.Doors.{tablesShort, recordOf, enteredOut, withdrawnOut, countedOut, summedOut, startDoor, enterDoor, withdrawDoor, countsDoor, responseDoor, summaryDoor}
+use Rattle.meter.proofs.Opening.{opens}
+use Rattle.meter.proofs.Starting.{long-checks, started-long}
+use Rattle.demands.specs.Caller.{Lent, DoorCall, start, enter, withdraw, counts, response, summary, begins, holds, doorAfter, doorAnswer, doorRun, worldOf, behindDoor, behindDoors}
+use Rattle.demands.proofs.Demands.{Said, demand-3}
+
+-- ---- the record through the tables
+
+take-put : {A : Type 0} (n : ℕ) (vs l : List A) → length vs ≡ n → take n (put vs l) ≡ vs
+unfolding put
+take-put n vs l e = ap (λ k. take k (vs ++ drop (length vs) l)) (sym e) ∙ front vs (drop (length vs) l)
+  where
+    front : {A : Type 0} (vs l : List A) → take (length vs) (vs ++ l) ≡ vs
+    front [] l = refl
+    front (v ∷ vs) l = ap (λ t. v ∷ t) (front vs l)
+
+-- a record of the same campaign, its tables as long
+record Handed (c c′ : Campaign) : Type 0 where
+  pub order : c′ .order ≡ c .order
+  pub taps : c′ .taps ≡ c .taps
+  pub slots : c′ .slots ≡ c .slots
+  pub days : length (c′ .days) ≡ length (c .days)
+  pub table : length (c′ .table) ≡ length (c .table)
+
+handed-same : (c : Campaign) → Handed c c
+handed-same c = record { order = refl; taps = refl; slots = refl; days = refl; table = refl }
+
+enter-handed : (c : Campaign) (store sums : List ℤ) (d : ℕ) (y : List ℤ) → Handed c (enterOutcome c store sums d y .0 .campaign)
+unfolding enterOutcome
+enter-handed c store sums d y =
+    judged (first (enterChecks c store sums d y)) (ltb (railPlace y) (length y)) (still y) (first ((12, eqb (daysIn c standing) (c .slots)) ∷ [])) _ _ _
+    (record { order = refl; taps = refl; slots = refl; days = length-set (c .days) _ _; table = refl })
+    (record { order = refl; taps = refl; slots = refl; days = length-set (c .days) _ _; table = refl })
+    (record { order = refl; taps = refl; slots = refl; days = length-set (c .days) _ _; table = length-set (c .table) _ _ })
+  where
+    back : ℕ → Entered × List ℤ × List ℤ
+    back n = (entered c d (verdict.Refused n), store, sums)
+
+    judged : (n : ℕ) (a b : Bool) (m : ℕ) (o p k : Entered × List ℤ × List ℤ) → Handed c (o .0 .campaign) → Handed c (p .0 .campaign) → Handed c (k .0 .campaign)
+        → Handed c (answered n (λ n. (entered c d (verdict.Refused n), store, sums)) (cond a o (cond b p (answered m (λ n. (entered c d (verdict.Refused n), store, sums)) k))) .0 .campaign)
+    judged (suc n) a b m o p k x y z = handed-same c
+    judged zero true b m o p k x y z = x
+    judged zero false true m o p k x y z = y
+    judged zero false false (suc m) o p k x y z = handed-same c
+    judged zero false false zero o p k x y z = z
+
+withdraw-handed : (c : Campaign) (store sums : List ℤ) (d : ℕ) → Handed c (withdrawOutcome c store sums d .0 .campaign)
+unfolding withdrawOutcome
+withdraw-handed c store sums d =
+    go (first (withdrawChecks c store sums d)) _ (record { order = refl; taps = refl; slots = refl; days = length-set (c .days) _ _; table = length-set (c .table) _ _ })
+  where
+    go : (n : ℕ) (k : Withdrawn × List ℤ × List ℤ) → Handed c (k .0 .campaign) → Handed c (answered n (λ n. (record { answer = n; campaign = c }, store, sums)) k .0 .campaign)
+    go zero k z = z
+    go (suc n) k z = handed-same c
+
+abbrev campaignOf : ℕ → ℕ → ℕ → List ℕ → List ℕ → Campaign
+campaignOf N taps C days table = record { order = N; taps = taps; slots = C; days = days; table = table }
+
+-- tables long enough
+pub record Long (ds ts : List ℕ) : Type 0 where
+  pub days : 366 ≤ length ds
+  pub slots : 64 ≤ length ts
+
+module _ (N taps C : ℕ) (days slots : List ℕ) (l : Long days slots) (c : Campaign) (h : Handed (recordOf N taps C days slots) c) where
+  days-long : length (c .days) ≡ 366
+  days-long = h .days ∙ length-take-le 366 days (l .days)
+
+  table-long : length (c .table) ≡ 64
+  table-long = h .table ∙ length-take-le 64 slots (l .slots)
+
+  -- written to the tables and read again
+  back-in : recordOf N taps C (put (c .days) days) (put (c .table) slots) ≡ c
+  back-in =
+      ap₂ (campaignOf N taps C) (take-put 366 (c .days) days days-long) (take-put 64 (c .table) slots table-long)
+      ∙ ap (λ n. campaignOf n taps C (c .days) (c .table)) (sym (h .order))
+      ∙ ap (λ t. campaignOf (c .order) t C (c .days) (c .table)) (sym (h .taps))
+      ∙ ap (λ s. campaignOf (c .order) (c .taps) s (c .days) (c .table)) (sym (h .slots))
+
+  still-long : Long (put (c .days) days) (put (c .table) slots)
+  still-long =
+      record {
+        days = omega (arith, l .days, length-put (c .days) days (omega (arith, days-long, l .days)));
+        slots = omega (arith, l .slots, length-put (c .table) slots (omega (arith, table-long, l .slots)));
+      }
+
+-- ---- one call
+
+-- the caller's world and the door's answer are those of the call behind it, and the tables stay long
+abbrev Follows : Lent → DoorCall → Type 0
+Follows l c =
+    (worldOf (doorAfter l c) ≡ after (worldOf l) (behindDoor c))
+    × (doorAnswer l c ≡ answer (worldOf l) (behindDoor c))
+    × Long (doorAfter l c .days) (doorAfter l c .slots)
+
+abbrev worldWith : Campaign → List ℤ → List ℤ → World
+worldWith c store sums = record { campaign = c; store = store; sums = sums }
+
+module _ (l : Lent) (t : Long (l .days) (l .slots)) where
+  open-tables : tablesShort (l .days) (l .slots) ≡ false
+  open-tables = simp (le-ltb (length (l .days)) 366 (t .days), le-ltb (length (l .slots)) 64 (t .slots))
+
+  abbrev mine : Campaign
+  mine = recordOf (l .order) (l .taps) (l .count) (l .days) (l .slots)
+
+  enter-opened : (d : ℕ) (y : List ℤ) (state value : ℕ) → enterDoor (l .order) (l .taps) (l .count) (l .days) (l .slots) (l .store) (l .sums) d y state value
+      ≡ enteredOut (l .days) (l .slots) state value (enterOutcome mine (l .store) (l .sums) d y)
+  unfolding enterDoor
+  enter-opened d y state value = sym (opens (l .days) (l .slots) _ _ open-tables)
+
+  withdraw-opened : (d : ℕ) → withdrawDoor (l .order) (l .taps) (l .count) (l .days) (l .slots) (l .store) (l .sums) d
+      ≡ withdrawnOut (l .days) (l .slots) (withdrawOutcome mine (l .store) (l .sums) d)
+  unfolding withdrawDoor
+  withdraw-opened d = sym (opens (l .days) (l .slots) _ _ open-tables)
+
+  follows-enter : (d : ℕ) (y : List ℤ) (state value : ℕ) → Follows l (enter d y state value)
+  follows-enter d y state value =
+      let o = enterOutcome mine (l .store) (l .sums) d y in
+      let h = enter-handed mine (l .store) (l .sums) d y in
+      let e = enter-opened d y state value in (
+        ap (λ (x : ℕ × List ℕ × List ℕ × List ℤ × List ℤ × ℕ × ℕ). worldOf (holds l (x .1) (x .2) (x .3) (x .4))) e
+            ∙ ap (λ c. worldWith c (o .1) (o .2)) (back-in (l .order) (l .taps) (l .count) (l .days) (l .slots) t (o .0 .campaign) h),
+        ap (λ (x : ℕ × List ℕ × List ℕ × List ℤ × List ℤ × ℕ × ℕ). x .0) e,
+        subst (λ (x : ℕ × List ℕ × List ℕ × List ℤ × List ℤ × ℕ × ℕ). Long (x .1) (x .2)) (sym e) (still-long (l .order) (l .taps) (l .count) (l .days) (l .slots) t (o .0 .campaign) h),
+      )
+
+  follows-withdraw : (d : ℕ) → Follows l (withdraw d)
+  follows-withdraw d =
+      let o = withdrawOutcome mine (l .store) (l .sums) d in
+      let h = withdraw-handed mine (l .store) (l .sums) d in
+      let e = withdraw-opened d in (
+        ap (λ (x : ℕ × List ℕ × List ℕ × List ℤ × List ℤ). worldOf (holds l (x .1) (x .2) (x .3) (x .4))) e
+            ∙ ap (λ c. worldWith c (o .1) (o .2)) (back-in (l .order) (l .taps) (l .count) (l .days) (l .slots) t (o .0 .campaign) h),
+        ap (λ (x : ℕ × List ℕ × List ℕ × List ℤ × List ℤ). x .0) e,
+        subst (λ (x : ℕ × List ℕ × List ℕ × List ℤ × List ℤ). Long (x .1) (x .2)) (sym e) (still-long (l .order) (l .taps) (l .count) (l .days) (l .slots) t (o .0 .campaign) h),
+      )
+
+  -- a start: refused, the caller goes on with the numbers that it has; accepted, with those that it gave
+  module _ (N taps C : ℕ) where
+    fresh-handed : Handed (recordOf N taps C (l .days) (l .slots)) (fresh N taps C)
+    fresh-handed =
+        record {
+          order = refl;
+          taps = refl;
+          slots = refl;
+          days = length-replicate {A = ℕ} 366 0 ∙ sym (length-take-le 366 (l .days) (t .days));
+          table = length-replicate {A = ℕ} 64 0 ∙ sym (length-take-le 64 (l .slots) (t .slots));
+        }
+
+    abbrev kept : ℕ → ℕ × List ℕ × List ℕ × List ℤ × List ℤ
+    kept n = (n, l .days, l .slots, l .store, l .sums)
+
+    abbrev made : ℕ × List ℕ × List ℕ × List ℤ × List ℤ
+    made = (0, put (fresh N taps C .days) (l .days), put (fresh N taps C .table) (l .slots), clearedWide (C * P N) (l .store), clearedWide (P N) (l .sums))
+
+    start-opened : startDoor N taps C (l .days) (l .slots) (l .store) (l .sums) ≡ answered (first (startChecks N taps C (l .store) (l .sums))) kept made
+    unfolding startDoor
+    start-opened = ap (λ n. answered n kept made) (long-checks N taps C (l .days) (l .slots) (l .store) (l .sums) open-tables)
+
+    by-answer : (n : ℕ) → let o = answered n kept made in
+        let k = answered {A = Started × List ℤ × List ℤ} n (λ n. (record { answer = n; campaign = mine }, l .store, l .sums)) (record { answer = 0; campaign = fresh N taps C }, clearedWide (C * P N) (l .store), clearedWide (P N) (l .sums)) in
+        (worldOf (begins l N taps C o) ≡ worldWith (k .0 .campaign) (k .1) (k .2)) × (o .0 ≡ k .0 .answer) × Long (o .1) (o .2)
+    by-answer zero = (
+      ap (λ c. worldWith c (clearedWide (C * P N) (l .store)) (clearedWide (P N) (l .sums))) (back-in N taps C (l .days) (l .slots) t (fresh N taps C) fresh-handed),
+      refl,
+      still-long N taps C (l .days) (l .slots) t (fresh N taps C) fresh-handed,
+    )
+    by-answer (suc n) = (refl, refl, t)
+
+    follows-start : Follows l (start N taps C)
+    unfolding startOutcome
+    follows-start =
+        let b = by-answer (first (startChecks N taps C (l .store) (l .sums))) in (
+          ap (λ (x : ℕ × List ℕ × List ℕ × List ℤ × List ℤ). worldOf (begins l N taps C x)) start-opened ∙ b .0,
+          ap (λ (x : ℕ × List ℕ × List ℕ × List ℤ × List ℤ). x .0) start-opened ∙ b .1,
+          subst (λ (x : ℕ × List ℕ × List ℕ × List ℤ × List ℤ). Long (x .1) (x .2)) (sym start-opened) (b .2),
+        )
+
+  -- the calls that only ask
+  pub counts-opened : (was : Tally) → countsDoor (l .order) (l .taps) (l .count) (l .days) (l .slots) (l .store) (l .sums) was
+      ≡ countedOut was (countsOutcome mine (l .store) (l .sums))
+  unfolding countsDoor
+  counts-opened was = sym (opens (l .days) (l .slots) _ _ open-tables)
+
+  pub response-opened : (r mean room : List ℤ) (tags : List ℕ)
+      → responseDoor (l .order) (l .taps) (l .count) (l .days) (l .slots) (l .store) (l .sums) r mean room tags
+      ≡ responseOutcome mine (l .store) (l .sums) r mean room tags
+  unfolding responseDoor
+  response-opened r mean room tags = sym (opens (l .days) (l .slots) _ _ open-tables)
+
+  pub summary-opened : (room : List ℤ) (tags : List ℕ) (stood : ℕ) (was : Levels)
+      → summaryDoor (l .order) (l .taps) (l .count) (l .days) (l .slots) (l .store) (l .sums) room tags stood was
+      ≡ summedOut stood was (summaryOutcome mine (l .store) (l .sums) room tags)
+  unfolding summaryDoor
+  summary-opened room tags stood was = sym (opens (l .days) (l .slots) _ _ open-tables)
+
+  pub follows : (c : DoorCall) → Follows l c
+  follows (start N taps C) = follows-start N taps C
+  follows (enter d y state value) = follows-enter d y state value
+  follows (withdraw d) = follows-withdraw d
+  follows (counts was) = (refl, ap (λ (o : ℕ × Tally). o .0) (counts-opened was), t)
+  follows (response r mean room tags) = (refl, ap (λ (o : ℕ × List ℤ × List ℤ × List ℤ × List ℕ). o .0) (response-opened r mean room tags), t)
+  follows (summary room tags stood was) = (refl, ap (λ (o : ℕ × List ℤ × List ℕ × ℕ × Levels). o .0) (summary-opened room tags stood was), t)
+
+-- ---- every sequence of door calls
+
+-- what the caller holds after it is the world after the run, and the next door answers as the call does
+pub record AsRun (l : Lent) (cs : List DoorCall) : Type 0 where
+  pub world : worldOf (doorRun l cs) ≡ run (worldOf l) (behindDoors cs)
+  pub says : (c : DoorCall) → doorAnswer (doorRun l cs) c ≡ answer (run (worldOf l) (behindDoors cs)) (behindDoor c)
+  pub tables : Long (doorRun l cs .days) (doorRun l cs .slots)
+
+pub as-run : (l : Lent) → Long (l .days) (l .slots) → (cs : List DoorCall) → AsRun l cs
+unfolding doorRun run behindDoors
+as-run l t [] = record { world = refl; says = λ c. follows l t c .1; tables = t }
+as-run l t (c ∷ cs) =
+    let s = as-run l t cs in
+    let f = follows (doorRun l cs) (s .tables) c in
+    let e : worldOf (doorAfter (doorRun l cs) c) ≡ after (run (worldOf l) (behindDoors cs)) (behindDoor c) = f .0 ∙ ap (λ w. after w (behindDoor c)) (s .world) in
+    record {
+      world = e;
+      says = λ k. follows (doorAfter (doorRun l cs) c) (f .2) k .1 ∙ ap (λ w. answer w (behindDoor k)) e;
+      tables = f .2;
+    }
+
+-- the third demand, of a C caller: from a door's start that answered 0, whatever tables and memory it lends, what it then holds
+pub record DoorSaid (l : Lent) (cs : List DoorCall) : Type 0 where
+  pub as-run : AsRun l cs
+  pub said : Said (worldOf l) (behindDoors cs) (worldOf (doorRun l cs))
+  pub no-fifteen : (c : DoorCall) → doorAnswer (doorRun l cs) c ≡ 15 → ⊥
+  pub response : (r mean room : List ℤ) (tags : List ℕ) → let h = doorRun l cs in let w = worldOf h in
+      responseDoor (h .order) (h .taps) (h .count) (h .days) (h .slots) (h .store) (h .sums) r mean room tags
+      ≡ responseOutcome (w .campaign) (w .store) (w .sums) r mean room tags
+
+appended : (cs before : List DoorCall) → behindDoors (cs ++ before) ≡ behindDoors cs ++ behindDoors before
+unfolding behindDoors
+appended [] before = refl
+appended (c ∷ cs) before = ap (λ t. behindDoor c ∷ t) (appended cs before)
+
+pub door-demand-3 : (l : Lent) (N taps C : ℕ) → startDoor N taps C (l .days) (l .slots) (l .store) (l .sums) .0 ≡ 0
+    → (cs : List DoorCall) → DoorSaid l (cs ++ start N taps C ∷ [])
+unfolding behindDoors
+door-demand-3 l N taps C e cs =
+    record {
+      as-run = s;
+      said = d;
+      no-fifteen = λ c h. d .no-fifteen (behindDoor c) (sym (follows (doorRun l all) (s .tables) c .1) ∙ h);
+      response = response-opened (doorRun l all) (s .tables);
+    }
+  where
+    all : List DoorCall
+    all = cs ++ start N taps C ∷ []
+
+    long : Long (l .days) (l .slots)
+    long = let h = started-long N taps C (l .days) (l .slots) (l .store) (l .sums) e in record { days = h .0; slots = h .1 }
+
+    s : AsRun l (cs ++ start N taps C ∷ [])
+    s = as-run l long (cs ++ start N taps C ∷ [])
+
+    d : Said (worldOf l) (behindDoors (cs ++ start N taps C ∷ [])) (worldOf (doorRun l (cs ++ start N taps C ∷ [])))
+    d =
+        rw (s .world, appended cs (start N taps C ∷ []))
+        (demand-3 (worldOf l) N taps C (sym (follows l long (start N taps C) .1) ∙ e) (behindDoors cs))

@@ -1,0 +1,97 @@
+-- The first demand, of a C caller: each door answers the first check that holds, and refused it hands back all that was lent. At a start a short table
+-- is among the causes of 6; every other door of a campaign looks at the tables first. Assumes nothing.
+use mathlib.Core.Path.{_≡_, refl, sym, ap, _∙_}
+use mathlib.Core.Bool.{Bool, true, false}
+use mathlib.Core.List.{List, [], _∷_}
+use Prim.Native.Nat.{ℕ, _≤_}
+use lib.IntN.{ℤ}
+use lib.ListN.{length}
+use Rattle.sums.specs.Refusals.{outcome}
+use Rattle.register.specs.Calls.{orderOut, shapeChecks}
+use Rattle.player.specs.Calls.{stepChecks}
+use Rattle.player.specs.declared.Player.{Player}
+use Rattle.records.specs.Record.{apart}
+use Rattle.campaign.specs.Calls.{withdrawChecks}
+use Rattle.trend.specs.Calls.{responseChecks, summaryChecks}
+use Rattle.trend.specs.declared.Tally.{Tally}
+use Rattle.trend.specs.declared.Levels.{Levels}
+use Rattle.meter.specs.Players.{defaultOut, defaultDoor, newOut, newDoor, steppedOut, stepDoor, playedOut, playDoor}
+use Rattle.meter.specs.Doors.{tablesShort, recordOf, behind, startDoorChecks, startDoor, enteredOut, enterDoor, withdrawnOut, withdrawDoor, countedOut, countsDoor, responseDoor, summedOut, summaryDoor}
+use Rattle.meter.proofs.Opening.{long, put-backs}
+use Rattle.demands.proofs.Demands.{Checked, numbers, checked, enterAll, demand-1}
+
+-- `meter_taps`, `meter_sequence`, `meter_recording` and `meter_predict` have the calls' own outcome functions, of which `demand-1` speaks
+pub record DoorRefusals : Type 0 where
+  pub default-taps : (N was : ℕ) → Checked (1 ∷ []) ((1, orderOut N) ∷ []) (λ (o : ℕ × ℕ). o .0) (λ n. (n, was)) (defaultDoor N was)
+  pub new-player : (N taps : ℕ) (was : Player)
+      → Checked (1 ∷ 2 ∷ 3 ∷ []) (shapeChecks N taps) (λ (o : ℕ × Player). o .0) (λ n. (n, was)) (newDoor N taps was)
+  pub step : (p : Player) (was : ℤ) → Checked (1 ∷ 2 ∷ 3 ∷ 16 ∷ []) (stepChecks p) (λ (o : ℕ × Player × ℤ). o .0) (λ n. (n, p, was)) (stepDoor p was)
+  pub play : (p : Player) (signs : List ℤ)
+      → Checked (1 ∷ 2 ∷ 3 ∷ 16 ∷ []) (stepChecks p) (λ (o : ℕ × Player × List ℤ). o .0) (λ n. (n, p, signs)) (playDoor p signs)
+  pub start : (N taps C : ℕ) (days slots : List ℕ) (store sums : List ℤ)
+      → Checked (1 ∷ 2 ∷ 3 ∷ 4 ∷ 9 ∷ 6 ∷ []) (startDoorChecks N taps C days slots store sums) (λ (o : ℕ × List ℕ × List ℕ × List ℤ × List ℤ). o .0)
+      (λ n. (n, days, slots, store, sums)) (startDoor N taps C days slots store sums)
+  pub enter : (N taps C : ℕ) (days slots : List ℕ) (store sums : List ℤ) (d : ℕ) (y : List ℤ) (state value : ℕ)
+      → Checked (15 ∷ 15 ∷ 10 ∷ 5 ∷ 7 ∷ 11 ∷ 12 ∷ []) ((15, tablesShort days slots) ∷ enterAll (recordOf N taps C days slots) store sums d y)
+      (λ (o : ℕ × List ℕ × List ℕ × List ℤ × List ℤ × ℕ × ℕ). o .0) (λ n. (n, days, slots, store, sums, state, value))
+      (enterDoor N taps C days slots store sums d y state value)
+  pub withdraw : (N taps C : ℕ) (days slots : List ℕ) (store sums : List ℤ) (d : ℕ)
+      → Checked (15 ∷ 15 ∷ 10 ∷ 13 ∷ []) ((15, tablesShort days slots) ∷ withdrawChecks (recordOf N taps C days slots) store sums d)
+      (λ (o : ℕ × List ℕ × List ℕ × List ℤ × List ℤ). o .0) (λ n. (n, days, slots, store, sums)) (withdrawDoor N taps C days slots store sums d)
+  pub counts : (N taps C : ℕ) (days slots : List ℕ) (store sums : List ℤ) (was : Tally)
+      → Checked (15 ∷ 15 ∷ []) ((15, tablesShort days slots) ∷ (15, apart (recordOf N taps C days slots) store sums) ∷ [])
+      (λ (o : ℕ × Tally). o .0) (λ n. (n, was)) (countsDoor N taps C days slots store sums was)
+  pub response : (N taps C : ℕ) (days slots : List ℕ) (store sums r mean room : List ℤ) (tags : List ℕ)
+      → Checked (15 ∷ 15 ∷ 6 ∷ 14 ∷ []) ((15, tablesShort days slots) ∷ responseChecks (recordOf N taps C days slots) store sums r mean room tags)
+      (λ (o : ℕ × List ℤ × List ℤ × List ℤ × List ℕ). o .0) (λ n. (n, r, mean, room, tags)) (responseDoor N taps C days slots store sums r mean room tags)
+  pub summary : (N taps C : ℕ) (days slots : List ℕ) (store sums room : List ℤ) (tags : List ℕ) (stood : ℕ) (was : Levels)
+      → Checked (15 ∷ 15 ∷ 6 ∷ []) ((15, tablesShort days slots) ∷ summaryChecks (recordOf N taps C days slots) store sums room tags)
+      (λ (o : ℕ × List ℤ × List ℕ × ℕ × Levels). o .0) (λ n. (n, room, tags, stood, was)) (summaryDoor N taps C days slots store sums room tags stood was)
+
+-- a call's outcome on its way out
+through : {A B : Type 0} {order : List ℕ} {checks : List (ℕ × Bool)} {number : B → ℕ} {back : ℕ → B} {o : B} → Checked order checks number back o
+    → (tell : A → ℕ) (kept : ℕ → A) (out : B → A) → ((x : B) → tell (out x) ≡ number x) → ((n : ℕ) → out (back n) ≡ kept n) → Checked order checks tell kept (out o)
+through {number = number} {o = o} c tell kept out tells keeps =
+    record {
+      in-order = c .in-order;
+      answer = tells o ∙ c .answer;
+      unchanged = λ h. ap out (c .unchanged (λ z. h (tells o ∙ z))) ∙ keeps (number o) ∙ ap kept (sym (tells o));
+    }
+
+-- and behind the check of the tables
+behind-tables : {A : Type 0} (days slots : List ℕ) (order : List ℕ) (checks : List (ℕ × Bool)) (tell : A → ℕ) (kept : ℕ → A) (opened : A)
+    → numbers checks ≡ order → ((n : ℕ) → tell (kept n) ≡ n) → ((366 ≤ length days) × (64 ≤ length slots) → Checked order checks tell kept opened)
+    → Checked (15 ∷ order) ((15, tablesShort days slots) ∷ checks) tell kept (behind days slots kept opened)
+behind-tables days slots order checks tell kept opened e told inner = go (tablesShort days slots) refl
+  where
+    go : (b : Bool) → tablesShort days slots ≡ b → Checked (15 ∷ order) ((15, b) ∷ checks) tell kept (outcome ((15, b) ∷ []) kept opened)
+    go true h = record { in-order = ap (λ l. 15 ∷ l) e; answer = told 15; unchanged = λ _. ap kept (sym (told 15)) }
+    go false h = let c = inner (long days slots h) in record { in-order = ap (λ l. 15 ∷ l) e; answer = c .answer; unchanged = c .unchanged }
+
+pub door-demand-1 : DoorRefusals
+unfolding startDoor enterDoor withdrawDoor countsDoor responseDoor summaryDoor
+door-demand-1 =
+    let calls = demand-1 .0 in
+    record {
+      default-taps = λ N was. through (calls .default-taps N) _ _ (defaultOut was) (λ x. refl) (λ n. refl);
+      new-player = λ N taps was. through (calls .new-player N taps) _ _ (newOut was) (λ x. refl) (λ n. refl);
+      step = λ p was. through (calls .step p) _ _ (steppedOut was) (λ x. refl) (λ n. refl);
+      play = λ p signs. through (calls .play p signs) _ _ playedOut (λ x. refl) (λ n. refl);
+      start = λ N taps C days slots store sums. checked _ _ _ _ _ refl (λ n. refl) refl;
+      enter = λ N taps C days slots store sums d y state value.
+          behind-tables days slots _ _ _ _ _ refl (λ n. refl) (λ l.
+          through (calls .enter (recordOf N taps C days slots) store sums d y) _ _ (enteredOut days slots state value) (λ x. refl)
+          (λ n. put-backs days slots l (λ a b. (n, a, b, store, sums, state, value))));
+      withdraw = λ N taps C days slots store sums d.
+          behind-tables days slots _ _ _ _ _ refl (λ n. refl) (λ l.
+          through (calls .withdraw (recordOf N taps C days slots) store sums d) _ _ (withdrawnOut days slots) (λ x. refl)
+          (λ n. put-backs days slots l (λ a b. (n, a, b, store, sums))));
+      counts = λ N taps C days slots store sums was.
+          behind-tables days slots _ _ _ _ _ refl (λ n. refl) (λ _.
+          through (calls .counts (recordOf N taps C days slots) store sums) _ _ (countedOut was) (λ x. refl) (λ n. refl));
+      response = λ N taps C days slots store sums r mean room tags.
+          behind-tables days slots _ _ _ _ _ refl (λ n. refl) (λ _. calls .response (recordOf N taps C days slots) store sums r mean room tags);
+      summary = λ N taps C days slots store sums room tags stood was.
+          behind-tables days slots _ _ _ _ _ refl (λ n. refl) (λ _.
+          through (calls .summary (recordOf N taps C days slots) store sums room tags) _ _ (summedOut stood was) (λ x. refl) (λ n. refl));
+    }

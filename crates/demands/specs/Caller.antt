@@ -1,0 +1,90 @@
+-- A caller of the C door: it lends the same tables and memory at each call, and the order, taps and slot count of its last accepted start. Assumes
+-- nothing.
+use mathlib.Core.List.{List, [], _∷_}
+use Prim.Native.Nat.{ℕ}
+use lib.IntN.{ℤ}
+use Rattle.sums.specs.Refusals.{answered}
+use Rattle.trend.specs.declared.Tally.{Tally}
+use Rattle.trend.specs.declared.Levels.{Levels}
+use Rattle.history.specs.Run.{World, Call}
+use Rattle.history.specs.Run as call
+use Rattle.meter.specs.Doors.{recordOf, startDoor, enterDoor, withdrawDoor, countsDoor, responseDoor, summaryDoor}
+
+-- what the caller holds
+pub record Lent : Type 0 where
+  pub order : ℕ
+  pub taps : ℕ
+  pub count : ℕ
+  pub days : List ℕ
+  pub slots : List ℕ
+  pub store : List ℤ
+  pub sums : List ℤ
+
+-- a call of the door, with what the caller lends for its answers
+pub data DoorCall : Type 0 where
+  start : ℕ → ℕ → ℕ → DoorCall
+  enter : ℕ → List ℤ → ℕ → ℕ → DoorCall
+  withdraw : ℕ → DoorCall
+  counts : Tally → DoorCall
+  response : List ℤ → List ℤ → List ℤ → List ℕ → DoorCall
+  summary : List ℤ → List ℕ → ℕ → Levels → DoorCall
+
+-- what it holds after a start, and after an entry or a withdrawal
+abbrev pub begins : Lent → ℕ → ℕ → ℕ → ℕ × List ℕ × List ℕ × List ℤ × List ℤ → Lent
+begins l N taps C (n, days, slots, store, sums) =
+    record {
+      order = answered n (λ _. l .order) N;
+      taps = answered n (λ _. l .taps) taps;
+      count = answered n (λ _. l .count) C;
+      days = days;
+      slots = slots;
+      store = store;
+      sums = sums;
+    }
+
+abbrev pub holds : Lent → List ℕ → List ℕ → List ℤ → List ℤ → Lent
+holds l days slots store sums =
+    record { order = l .order; taps = l .taps; count = l .count; days = days; slots = slots; store = store; sums = sums }
+
+abbrev pub doorAfter : Lent → DoorCall → Lent
+doorAfter l (start N taps C) = begins l N taps C (startDoor N taps C (l .days) (l .slots) (l .store) (l .sums))
+doorAfter l (enter d y state value) =
+    let o = enterDoor (l .order) (l .taps) (l .count) (l .days) (l .slots) (l .store) (l .sums) d y state value in
+    holds l (o .1) (o .2) (o .3) (o .4)
+doorAfter l (withdraw d) =
+    let o = withdrawDoor (l .order) (l .taps) (l .count) (l .days) (l .slots) (l .store) (l .sums) d in
+    holds l (o .1) (o .2) (o .3) (o .4)
+doorAfter l (counts was) = l
+doorAfter l (response r mean room tags) = l
+doorAfter l (summary room tags stood was) = l
+
+-- the number that the door answers
+abbrev pub doorAnswer : Lent → DoorCall → ℕ
+doorAnswer l (start N taps C) = startDoor N taps C (l .days) (l .slots) (l .store) (l .sums) .0
+doorAnswer l (enter d y state value) = enterDoor (l .order) (l .taps) (l .count) (l .days) (l .slots) (l .store) (l .sums) d y state value .0
+doorAnswer l (withdraw d) = withdrawDoor (l .order) (l .taps) (l .count) (l .days) (l .slots) (l .store) (l .sums) d .0
+doorAnswer l (counts was) = countsDoor (l .order) (l .taps) (l .count) (l .days) (l .slots) (l .store) (l .sums) was .0
+doorAnswer l (response r mean room tags) = responseDoor (l .order) (l .taps) (l .count) (l .days) (l .slots) (l .store) (l .sums) r mean room tags .0
+doorAnswer l (summary room tags stood was) =
+    summaryDoor (l .order) (l .taps) (l .count) (l .days) (l .slots) (l .store) (l .sums) room tags stood was .0
+
+-- a sequence of calls, the latest first
+unfoldable pub doorRun : Lent → List DoorCall → Lent
+doorRun l [] = l
+doorRun l (c ∷ earlier) = doorAfter (doorRun l earlier) c
+
+-- the world that the caller lends, and the library's call behind the door
+abbrev pub worldOf : Lent → World
+worldOf l = record { campaign = recordOf (l .order) (l .taps) (l .count) (l .days) (l .slots); store = l .store; sums = l .sums }
+
+abbrev pub behindDoor : DoorCall → Call
+behindDoor (start N taps C) = call.start N taps C
+behindDoor (enter d y state value) = call.enter d y
+behindDoor (withdraw d) = call.withdraw d
+behindDoor (counts was) = call.counts
+behindDoor (response r mean room tags) = call.response r mean room tags
+behindDoor (summary room tags stood was) = call.summary room tags
+
+unfoldable pub behindDoors : List DoorCall → List Call
+behindDoors [] = []
+behindDoors (c ∷ cs) = behindDoor c ∷ behindDoors cs

@@ -1,0 +1,1 @@
+// The three demands on one page: laws, and no code.

@@ -1,0 +1,40 @@
+-- A run that begins with an accepted start is under way, whatever calls follow, and it is that start's campaign until the next. Assumes nothing.
+use mathlib.Core.Path.{_≡_, ap, subst, _∙_}
+use mathlib.Core.Bool.{true, false, cond, _&&_, _||_, or-true}
+use mathlib.Core.List.{List, [], _∷_, _++_}
+use Prim.Native.Nat.{ℕ}
+use borrow.Author.Tests.{eq-eqb}
+use lib.Dec.{T}
+use Rattle.records.specs.Record.{fresh}
+use Rattle.history.specs.Run.{World, Call, start, enter, withdraw, counts, response, summary, answer, accepted, run, starts, underWay, begun}
+use Rattle.history.proofs.History.{if-alike}
+
+pub stays-under-way : (w : World) (call : Call) (before : List Call) → underWay w before ≡ true → underWay w (call ∷ before) ≡ true
+unfolding underWay
+stays-under-way w call before u =
+    ap (λ b. (starts call && accepted (run w before) call) || b) u ∙ or-true (starts call && accepted (run w before) call)
+
+pub same-campaign : (w : World) (call : Call) (before : List Call) → starts call ≡ false → begun w (call ∷ before) ≡ begun w before
+unfolding begun
+same-campaign w (start N taps C) before e = absurd (subst T e tt)
+same-campaign w (enter d y) before _ = if-alike (accepted (run w before) (enter d y)) (begun w before)
+same-campaign w (withdraw d) before _ = if-alike (accepted (run w before) (withdraw d)) (begun w before)
+same-campaign w counts before _ = if-alike (accepted (run w before) counts) (begun w before)
+same-campaign w (response r mean room tags) before _ = if-alike (accepted (run w before) (response r mean room tags)) (begun w before)
+same-campaign w (summary room tags) before _ = if-alike (accepted (run w before) (summary room tags)) (begun w before)
+
+-- ---- an accepted start
+
+module _ (w : World) (N taps C : ℕ) (before : List Call) (accepted-0 : answer (run w before) (start N taps C) ≡ 0) where
+  pub started : underWay w (start N taps C ∷ before) ≡ true
+  unfolding underWay
+  started = ap (λ b. b || underWay w before) (eq-eqb (answer (run w before) (start N taps C)) 0 accepted-0)
+
+  pub started-campaign : begun w (start N taps C ∷ before) ≡ fresh N taps C
+  unfolding begun
+  started-campaign = ap (λ b. cond b (fresh N taps C) (begun w before)) (eq-eqb (answer (run w before) (start N taps C)) 0 accepted-0)
+
+pub from-start : (w : World) (N taps C : ℕ) → answer w (start N taps C) ≡ 0 → (cs : List Call) → underWay w (cs ++ start N taps C ∷ []) ≡ true
+unfolding run
+from-start w N taps C e [] = started w N taps C [] e
+from-start w N taps C e (call ∷ cs) = stays-under-way w call (cs ++ start N taps C ∷ []) (from-start w N taps C e cs)
