@@ -5,7 +5,6 @@ use mathlib.Core.List.{[]}
 use Prim.Native.Nat.{ℕ}
 use lib.IntN.{negsuc}
 use Rattle.sums.specs.Text.{ascii}
-use Rattle.campaign.specs.declared.Verdict.{Verdict}
 use Rattle.campaign.specs.declared.Verdict.the-variants as verdict
 use Rattle.trend.specs.declared.Tally.{Tally}
 use Rattle.report.specs.declared.Line.the-variants as line
