@@ -7,7 +7,7 @@ use lib.Dec.{eqb, ltb}
 use lib.IntN.{ℤ, pos, negsuc, _+ℤ_, _-ℤ_}
 use lib.ListN.{length}
 use Rattle.sums.specs.Lists.{at, table, put, putAt, seek, every}
-use Rattle.sums.specs.Refusals.{outcome}
+use Rattle.sums.specs.Refusals.{outcome, Meaning, accepts, refuses}
 use Rattle.register.specs.Register.{P}
 use Rattle.register.specs.Calls.{tapsChecks}
 use Rattle.response.specs.Calls.{lengthOff, someOut, clearedWide}
@@ -115,10 +115,14 @@ unfoldable pub withdrawOutcome : Campaign → List ℤ → List ℤ → ℕ → 
 withdrawOutcome c store sums d =
     outcome (withdrawChecks c store sums d) (λ n. (record { answer = n; campaign = c }, store, sums)) (withdrawnOutcome c store sums d)
 
--- ---- this paper's number for each verdict: 0 is accepted
+-- ---- this paper's number for each verdict, 0 where it is accepted, and its values
+
+-- the state that it gives the day; and its slot, the first place at a rail, or 0
+abbrev pub verdictMeans : Verdict → Meaning (ℕ × ℕ)
+verdictMeans (verdict.Kept s) = accepts (standing, s)
+verdictMeans (verdict.Overloaded p) = accepts (overloaded, p)
+verdictMeans verdict.Dead = accepts (dead, 0)
+verdictMeans (verdict.Refused n) = refuses n
 
 abbrev pub verdictNumber : Verdict → ℕ
-verdictNumber (verdict.Kept s) = 0
-verdictNumber (verdict.Overloaded p) = 0
-verdictNumber verdict.Dead = 0
-verdictNumber (verdict.Refused n) = n
+verdictNumber v = verdictMeans v .0

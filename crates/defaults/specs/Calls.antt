@@ -3,7 +3,7 @@ use mathlib.Core.List.{List, [], _∷_}
 use mathlib.Core.Bool.{Bool, false, cond, _||_}
 use Prim.Native.Nat.{ℕ}
 use lib.Dec.{eqb}
-use Rattle.sums.specs.Refusals.{outcome}
+use Rattle.sums.specs.Refusals.{outcome, Meaning, accepts, refuses}
 use Rattle.register.specs.Calls.{orderOut}
 use Rattle.defaults.specs.declared.DefaultTaps.{DefaultTaps}
 use Rattle.defaults.specs.declared.DefaultTaps.the-variants as default
@@ -35,7 +35,10 @@ takes (row ∷ rows) N = cond (among N (row .0)) (row .1) (takes rows N)
 unfoldable pub defaultOutcome : ℕ → DefaultTaps
 defaultOutcome N = outcome ((1, orderOut N) ∷ []) default.Refused (default.Taps (takes defaultRows N))
 
--- this paper's number for each case of the answer
+-- this paper's number for each case of the answer, and its value: the taps
+abbrev pub defaultMeans : DefaultTaps → Meaning ℕ
+defaultMeans (default.Taps taps) = accepts taps
+defaultMeans (default.Refused n) = refuses n
+
 abbrev pub defaultNumber : DefaultTaps → ℕ
-defaultNumber (default.Taps taps) = 0
-defaultNumber (default.Refused n) = n
+defaultNumber d = defaultMeans d .0

@@ -8,24 +8,20 @@ use lib.Dec.{ltb}
 use lib.IntN.{ℤ}
 use lib.ListN.{length, take}
 use Rattle.sums.specs.Lists.{put}
-use Rattle.sums.specs.Refusals.{outcome}
+use Rattle.sums.specs.Refusals.{outcome, meant}
 use Rattle.register.specs.Register.{P}
 use Rattle.register.specs.Calls.{tapsChecks}
 use Rattle.response.specs.Calls.{clearedWide}
-use Rattle.records.specs.Record.{standing, overloaded, dead, fresh}
+use Rattle.records.specs.Record.{fresh}
 use Rattle.records.specs.declared.Campaign.{Campaign}
-use Rattle.campaign.specs.declared.Verdict.{Verdict}
-use Rattle.campaign.specs.declared.Verdict.the-variants as verdict
 use Rattle.campaign.specs.declared.Entered.{Entered}
 use Rattle.campaign.specs.declared.Withdrawn.{Withdrawn}
-use Rattle.campaign.specs.Calls.{slotsOut, enterOutcome, withdrawOutcome, verdictNumber}
+use Rattle.campaign.specs.Calls.{slotsOut, enterOutcome, withdrawOutcome, verdictMeans, verdictNumber}
 use Rattle.trend.specs.declared.Tally.{Tally}
 use Rattle.trend.specs.declared.Counts.{Counts}
-use Rattle.trend.specs.declared.Counts.the-variants as counts
 use Rattle.trend.specs.declared.Levels.{Levels}
 use Rattle.trend.specs.declared.Summary.{Summary}
-use Rattle.trend.specs.declared.Summary.the-variants as summary
-use Rattle.trend.specs.Calls.{countsOutcome, responseOutcome, summaryOutcome, countsNumber, summaryNumber}
+use Rattle.trend.specs.Calls.{countsOutcome, responseOutcome, summaryOutcome, countsMeans, summaryMeans, summaryNumber}
 
 -- ---- the record
 
@@ -62,20 +58,6 @@ startDoor N taps C days slots store sums =
 
 -- ---- enter: and the verdict
 
--- the state that a verdict gives its day; a refusal gives none
-abbrev pub verdictState : Verdict → ℕ → ℕ
-verdictState (verdict.Kept s) was = standing
-verdictState (verdict.Overloaded p) was = overloaded
-verdictState verdict.Dead was = dead
-verdictState (verdict.Refused n) was = was
-
--- its value: the slot, the first place at a rail, 0 for a dead day
-abbrev pub verdictValue : Verdict → ℕ → ℕ
-verdictValue (verdict.Kept s) was = s
-verdictValue (verdict.Overloaded p) was = p
-verdictValue verdict.Dead was = 0
-verdictValue (verdict.Refused n) was = was
-
 abbrev pub enteredOut : List ℕ → List ℕ → ℕ → ℕ → Entered × List ℤ × List ℤ → ℕ × List ℕ × List ℕ × List ℤ × List ℤ × ℕ × ℕ
 enteredOut days slots state value (e, store, sums) = (
   verdictNumber (e .entry .verdict),
@@ -83,8 +65,7 @@ enteredOut days slots state value (e, store, sums) = (
   put (e .campaign .table) slots,
   store,
   sums,
-  verdictState (e .entry .verdict) state,
-  verdictValue (e .entry .verdict) value,
+  verdictMeans (e .entry .verdict) .1 (state, value),
 )
 
 unfoldable pub enterDoor : ℕ → ℕ → ℕ → List ℕ → List ℕ → List ℤ → List ℤ → ℕ → List ℤ → ℕ → ℕ → ℕ × List ℕ × List ℕ × List ℤ × List ℤ × ℕ × ℕ
@@ -104,12 +85,8 @@ withdrawDoor N taps C days slots store sums d =
 
 -- ---- counts: the answer and the days in each state
 
-abbrev pub tallyOut : Counts → Tally → Tally
-tallyOut (counts.Counted t) was = t
-tallyOut (counts.Refused n) was = was
-
 abbrev pub countedOut : Tally → Counts → ℕ × Tally
-countedOut was c = (countsNumber c, tallyOut c was)
+countedOut was c = meant was (countsMeans c)
 
 unfoldable pub countsDoor : ℕ → ℕ → ℕ → List ℕ → List ℕ → List ℤ → List ℤ → Tally → ℕ × Tally
 countsDoor N taps C days slots store sums was =
@@ -124,18 +101,8 @@ responseDoor N taps C days slots store sums r mean room tags =
 
 -- ---- summary: the answer, the wide room and the tags, whether some day stands, and the levels, which are written where one does
 
-abbrev pub standsOut : Summary → ℕ → ℕ
-standsOut summary.Nothing was = 0
-standsOut (summary.Measured l) was = 1
-standsOut (summary.Refused n) was = was
-
-abbrev pub levelsOut : Summary → Levels → Levels
-levelsOut summary.Nothing was = was
-levelsOut (summary.Measured l) was = l
-levelsOut (summary.Refused n) was = was
-
 abbrev pub summedOut : ℕ → Levels → Summary × List ℤ × List ℕ → ℕ × List ℤ × List ℕ × ℕ × Levels
-summedOut stood was (s, room, tags) = (summaryNumber s, room, tags, standsOut s stood, levelsOut s was)
+summedOut stood was (s, room, tags) = (summaryNumber s, room, tags, summaryMeans s .1 (stood, was))
 
 unfoldable pub summaryDoor : ℕ → ℕ → ℕ → List ℕ → List ℕ → List ℤ → List ℤ → List ℤ → List ℕ → ℕ → Levels → ℕ × List ℤ × List ℕ × ℕ × Levels
 summaryDoor N taps C days slots store sums room tags stood was =

@@ -3,53 +3,38 @@
 use mathlib.Core.List.{List}
 use Prim.Native.Nat.{ℕ}
 use lib.IntN.{ℤ}
+use Rattle.sums.specs.Refusals.{meant}
 use Rattle.player.specs.declared.Player.{Player}
 use Rattle.defaults.specs.declared.DefaultTaps.{DefaultTaps}
-use Rattle.defaults.specs.declared.DefaultTaps.the-variants as default
 use Rattle.player.specs.declared.NewPlayer.{NewPlayer}
-use Rattle.player.specs.declared.NewPlayer.the-variants as new
-use Rattle.player.specs.declared.Tick.{Tick}
-use Rattle.player.specs.declared.Tick.the-variants as tick
 use Rattle.player.specs.declared.Stepped.{Stepped}
 use Rattle.player.specs.declared.Played.{Played}
-use Rattle.defaults.specs.Calls.{defaultOutcome, defaultNumber}
-use Rattle.player.specs.Calls.{newOutcome, stepOutcome, playOutcome, newNumber, tickNumber}
+use Rattle.defaults.specs.Calls.{defaultOutcome, defaultMeans}
+use Rattle.player.specs.Calls.{newOutcome, stepOutcome, playOutcome, newMeans, tickMeans, tickNumber}
 
 abbrev pub playerOf : ℕ → ℕ → ℕ → ℕ → Player
 playerOf N taps window count = record { order = N; taps = taps; window = window; count = count }
 
 -- ---- default taps: the answer and the taps
 
-abbrev pub tapsOf : ℕ → DefaultTaps → ℕ
-tapsOf was (default.Taps taps) = taps
-tapsOf was (default.Refused n) = was
-
 abbrev pub defaultOut : ℕ → DefaultTaps → ℕ × ℕ
-defaultOut was d = (defaultNumber d, tapsOf was d)
+defaultOut was d = meant was (defaultMeans d)
 
 abbrev pub defaultDoor : ℕ → ℕ → ℕ × ℕ
 defaultDoor N was = defaultOut was (defaultOutcome N)
 
 -- ---- new player: the answer and the player
 
-abbrev pub madeOf : Player → NewPlayer → Player
-madeOf was (new.Ready p) = p
-madeOf was (new.Refused n) = was
-
 abbrev pub newOut : Player → NewPlayer → ℕ × Player
-newOut was n = (newNumber n, madeOf was n)
+newOut was n = meant was (newMeans n)
 
 abbrev pub newDoor : ℕ → ℕ → Player → ℕ × Player
 newDoor N taps was = newOut was (newOutcome N taps)
 
 -- ---- player step: the answer, the player and the sign
 
-abbrev pub signOut : ℤ → Tick → ℤ
-signOut was (tick.Sign x) = x
-signOut was (tick.Refused n) = was
-
 abbrev pub steppedOut : ℤ → Stepped → ℕ × Player × ℤ
-steppedOut was s = (tickNumber (s .tick), s .player, signOut was (s .tick))
+steppedOut was s = (tickNumber (s .tick), s .player, tickMeans (s .tick) .1 was)
 
 abbrev pub stepDoor : Player → ℤ → ℕ × Player × ℤ
 stepDoor p was = steppedOut was (stepOutcome p)

@@ -3,15 +3,13 @@ use campaign::Verdict;
 use trend::Counts;
 use trend::Summary;
 ghost use mathlib.Core.Path.{_≡_};
-ghost use Rattle.campaign.specs.Calls.{verdictNumber};
-ghost use Rattle.trend.specs.Calls.{countsNumber, summaryNumber};
-ghost use Rattle.meter.specs.Doors.{verdictState, verdictValue, tallyOut, standsOut, levelsOut};
+ghost use Rattle.sums.specs.Refusals.{meant};
+ghost use Rattle.campaign.specs.Calls.{verdictMeans};
+ghost use Rattle.trend.specs.Calls.{countsMeans, summaryMeans};
 
 // The answer; the state that the verdict gives the day, and the verdict's value, where it is lent.
 pub fn write_verdict(verdict: Verdict, state: &mut u32, value: &mut usize) -> u32
-    ensures { λ r. ⌜ (r ≡ verdictNumber verdict)
-        × (now (state .exit) ≡ verdictState verdict (now (state .entry)))
-        × (now (value .exit) ≡ verdictValue verdict (now (value .entry))) ⌝ }
+    ensures { λ r. ⌜ (r, now (state .exit), now (value .exit)) ≡ meant (now (state .entry), now (value .entry)) (verdictMeans verdict) ⌝ }
 {
     match verdict {
         Verdict::Kept(s) => {
@@ -42,9 +40,9 @@ pub fn write_counts(
     dead: &mut u32,
     withdrawn: &mut u32,
 ) -> u32
-    ensures { λ r. ⌜ (r ≡ countsNumber counts)
-        × (record { unseen = now (unseen .exit); standing = now (standing .exit); overloaded = now (overloaded .exit); dead = now (dead .exit); withdrawn = now (withdrawn .exit) }
-        ≡ tallyOut counts (record { unseen = now (unseen .entry); standing = now (standing .entry); overloaded = now (overloaded .entry); dead = now (dead .entry); withdrawn = now (withdrawn .entry) })) ⌝ }
+    ensures { λ r. ⌜ (r, record { unseen = now (unseen .exit); standing = now (standing .exit); overloaded = now (overloaded .exit); dead = now (dead .exit); withdrawn = now (withdrawn .exit) })
+        ≡ meant (record { unseen = now (unseen .entry); standing = now (standing .entry); overloaded = now (overloaded .entry); dead = now (dead .entry); withdrawn = now (withdrawn .entry) })
+        (countsMeans counts) ⌝ }
 {
     match counts {
         Counts::Counted(t) => {
@@ -67,10 +65,8 @@ pub fn write_summary(
     lowest: &mut f64,
     peak: &mut f64,
 ) -> u32
-    ensures { λ r. ⌜ (r ≡ summaryNumber summary)
-        × (now (stands .exit) ≡ standsOut summary (now (stands .entry)))
-        × (record { highest = now (highest .exit); lowest = now (lowest .exit); peak = now (peak .exit) }
-        ≡ levelsOut summary (record { highest = now (highest .entry); lowest = now (lowest .entry); peak = now (peak .entry) })) ⌝ }
+    ensures { λ r. ⌜ (r, now (stands .exit), record { highest = now (highest .exit); lowest = now (lowest .exit); peak = now (peak .exit) })
+        ≡ meant (now (stands .entry), record { highest = now (highest .entry); lowest = now (lowest .entry); peak = now (peak .entry) }) (summaryMeans summary) ⌝ }
 {
     match summary {
         Summary::Nothing => {

@@ -8,7 +8,7 @@ use lib.IntN.{ℤ}
 use lib.ListN.{length}
 use Rattle.sums.specs.Sum.{sign}
 use Rattle.sums.specs.Lists.{table}
-use Rattle.sums.specs.Refusals.{outcome}
+use Rattle.sums.specs.Refusals.{outcome, Meaning, accepts, refuses}
 use Rattle.register.specs.Register.{P, step}
 use Rattle.register.specs.Calls.{shapeChecks}
 use Rattle.player.specs.declared.Player.{Player}
@@ -65,12 +65,18 @@ playOutcome p signs =
     outcome (stepChecks p) (λ n. (record { answer = n; player = p }, signs))
     (record { answer = 0; player = after p (length signs) }, table (length signs) (signAfter p))
 
--- ---- this paper's number for each case of an answer
+-- ---- this paper's number for each case of an answer, 0 where it is accepted, and its value: the player, the sign
+
+abbrev pub newMeans : NewPlayer → Meaning Player
+newMeans (new.Ready p) = accepts p
+newMeans (new.Refused n) = refuses n
 
 abbrev pub newNumber : NewPlayer → ℕ
-newNumber (new.Ready p) = 0
-newNumber (new.Refused n) = n
+newNumber n = newMeans n .0
+
+abbrev pub tickMeans : Tick → Meaning ℤ
+tickMeans (tick.Sign x) = accepts x
+tickMeans (tick.Refused n) = refuses n
 
 abbrev pub tickNumber : Tick → ℕ
-tickNumber (tick.Sign x) = 0
-tickNumber (tick.Refused n) = n
+tickNumber t = tickMeans t .0

@@ -17,3 +17,20 @@ answered (suc n) refused accepted = refused (suc n)
 -- what a call comes to: its checks, then what is handed back on a refusal, then what is made where there is none
 abbrev pub outcome : {A : Type 0} → List (ℕ × Bool) → (ℕ → A) → A → A
 outcome checks refused accepted = answered (first checks) refused accepted
+
+-- ---- an answer that is an enum, in this paper's terms
+
+-- its number, and what becomes of the values that the caller has for it
+abbrev pub Meaning : Type 0 → Type 0
+Meaning A = ℕ × (A → A)
+
+-- 0: accepted, with these values
+abbrev pub accepts : {A : Type 0} → A → Meaning A
+accepts v = (0, λ _. v)
+
+-- refused: the caller's stay
+abbrev pub refuses : {A : Type 0} → ℕ → Meaning A
+refuses n = (n, λ was. was)
+
+abbrev pub meant : {A : Type 0} → A → Meaning A → ℕ × A
+meant was m = (m .0, m .1 was)

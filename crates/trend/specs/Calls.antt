@@ -9,7 +9,7 @@ use lib.IntN.{ℤ, pos, natAbs, _-ℤ_}
 use lib.ListN.{length}
 use lib.Signed.{leZ}
 use Rattle.sums.specs.Lists.{at, table, put, seek, every}
-use Rattle.sums.specs.Refusals.{outcome}
+use Rattle.sums.specs.Refusals.{outcome, Meaning, accepts, refuses}
 use Rattle.register.specs.Register.{P, wave}
 use Rattle.response.specs.Response.{response}
 use Rattle.rounding.specs.Rounding.{rounded}
@@ -107,13 +107,21 @@ summaryOutcome c store sums room tags =
       clearedTags (2 * P (c .order)) tags,
     ))
 
--- ---- this paper's number for each case of an answer: 0 is accepted
+-- ---- this paper's number for each case of an answer, 0 where it is accepted, and its values
+
+-- the days in each state
+abbrev pub countsMeans : Counts → Meaning Tally
+countsMeans (counts.Counted t) = accepts t
+countsMeans (counts.Refused n) = refuses n
 
 abbrev pub countsNumber : Counts → ℕ
-countsNumber (counts.Counted t) = 0
-countsNumber (counts.Refused n) = n
+countsNumber c = countsMeans c .0
+
+-- whether some day stands, 1 or 0; and the levels, given where one does
+abbrev pub summaryMeans : Summary → Meaning (ℕ × Levels)
+summaryMeans summary.Nothing = (0, λ was. (0, was .1))
+summaryMeans (summary.Measured l) = accepts (1, l)
+summaryMeans (summary.Refused n) = refuses n
 
 abbrev pub summaryNumber : Summary → ℕ
-summaryNumber summary.Nothing = 0
-summaryNumber (summary.Measured l) = 0
-summaryNumber (summary.Refused n) = n
+summaryNumber s = summaryMeans s .0

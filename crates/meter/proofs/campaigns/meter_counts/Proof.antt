@@ -5,11 +5,12 @@ use mathlib.Core.List.{List}
 use Prim.Native.Nat.{ℕ}
 use borrow.Author.Needs.{needs}
 use lib.IntN.{ℤ}
+use Rattle.sums.specs.Refusals.{meant}
 use Rattle.records.specs.declared.Campaign.{Campaign}
 use Rattle.trend.specs.declared.Tally.{Tally}
 use Rattle.trend.specs.declared.Counts.{Counts}
-use Rattle.trend.specs.Calls.{countsOutcome, countsNumber}
-use Rattle.meter.specs.Doors.{tablesShort, recordOf, tallyOut, countedOut, countsDoor}
+use Rattle.trend.specs.Calls.{countsOutcome, countsMeans}
+use Rattle.meter.specs.Doors.{tablesShort, recordOf, countedOut, countsDoor}
 use Rattle.meter.proofs.Opening.{shut, through, long}
 use Rattle.meter.proofs.campaigns.meter_counts.Statement.{statement}
 use Rattle.meter.proofs.campaigns.meter_counts.Tie as tie
@@ -20,10 +21,10 @@ module _ (N taps C : ℕ) (days slots : List ℕ) (store sums : List ℤ) (was :
   refused h = shut days slots _ _ h
 
   opened : tablesShort days slots ≡ false → {c : Campaign} {k : Counts} {r : ℕ} {t : Tally}
-      → c ≡ recordOf N taps C days slots → k ≡ countsOutcome c store sums → (r ≡ countsNumber k) × (t ≡ tallyOut k was)
+      → c ≡ recordOf N taps C days slots → k ≡ countsOutcome c store sums → (r, t) ≡ meant was (countsMeans k)
       → (r, t) ≡ countsDoor N taps C days slots store sums was
   unfolding countsDoor
-  opened h {k = k} e o (f, g) = through days slots _ (countedOut was) {o = k} h (rw (f, g)) (o ∙ ap (λ c. countsOutcome c store sums) e)
+  opened h {k = k} e o f = through days slots _ (countedOut was) {o = k} h f (o ∙ ap (λ c. countsOutcome c store sums) e)
 
 abbrev tally : (c : tie.Start) → Tally
 tally c =

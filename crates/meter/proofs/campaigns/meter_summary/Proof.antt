@@ -5,11 +5,12 @@ use mathlib.Core.List.{List}
 use Prim.Native.Nat.{ℕ}
 use borrow.Author.Needs.{needs}
 use lib.IntN.{ℤ}
+use Rattle.sums.specs.Refusals.{meant}
 use Rattle.records.specs.declared.Campaign.{Campaign}
 use Rattle.trend.specs.declared.Levels.{Levels}
 use Rattle.trend.specs.declared.Summary.{Summary}
-use Rattle.trend.specs.Calls.{summaryOutcome, summaryNumber}
-use Rattle.meter.specs.Doors.{tablesShort, recordOf, standsOut, levelsOut, summedOut, summaryDoor}
+use Rattle.trend.specs.Calls.{summaryOutcome, summaryMeans}
+use Rattle.meter.specs.Doors.{tablesShort, recordOf, summedOut, summaryDoor}
 use Rattle.meter.proofs.Opening.{shut, through, long}
 use Rattle.meter.proofs.campaigns.meter_summary.Statement.{statement}
 use Rattle.meter.proofs.campaigns.meter_summary.Tie as tie
@@ -21,11 +22,11 @@ module _ (N taps C : ℕ) (days slots : List ℕ) (store sums room : List ℤ) (
 
   opened : tablesShort days slots ≡ false → {c : Campaign} {s : Summary} {room′ : List ℤ} {tags′ : List ℕ} {r n : ℕ} {l : Levels}
       → c ≡ recordOf N taps C days slots → (s, room′, tags′) ≡ summaryOutcome c store sums room tags
-      → (r ≡ summaryNumber s) × (n ≡ standsOut s stood) × (l ≡ levelsOut s was)
+      → (r, n, l) ≡ meant (stood, was) (summaryMeans s)
       → (r, room′, tags′, n, l) ≡ summaryDoor N taps C days slots store sums room tags stood was
   unfolding summaryDoor
-  opened h {s = s} {room′ = room′} {tags′ = tags′} e o (f, g, k) =
-      through days slots _ (summedOut stood was) {o = (s, room′, tags′)} h (rw (f, g, k)) (o ∙ ap (λ c. summaryOutcome c store sums room tags) e)
+  opened h {s = s} {room′ = room′} {tags′ = tags′} e o f =
+      through days slots _ (summedOut stood was) {o = (s, room′, tags′)} h (ap (λ t. (t .0, room′, tags′, t .1)) f) (o ∙ ap (λ c. summaryOutcome c store sums room tags) e)
 
 abbrev levels : (c : tie.Start) → Levels
 levels c = let a = c .args in record { highest = a .highest .now; lowest = a .lowest .now; peak = a .peak .now }

@@ -1,11 +1,11 @@
 -- `meter::registers::meter_player_step` meets its contract. Assumes nothing.
 use mathlib.Core.Path.{_≡_, sym, ap, _∙_}
-use Rattle.meter.specs.Players.{playerOf, signOut, steppedOut, stepDoor}
+use Rattle.meter.specs.Players.{playerOf, steppedOut, stepDoor}
 use Prim.Native.Nat.{ℕ}
 use lib.IntN.{ℤ}
 use mir.Syntax.{w32}
 use mir.Val.{toZ, ofZ}
-use Rattle.player.specs.Calls.{stepOutcome, tickNumber}
+use Rattle.player.specs.Calls.{stepOutcome, tickMeans, tickNumber}
 use Rattle.player.specs.declared.Player.{Player}
 use Rattle.player.specs.declared.Stepped.{Stepped}
 use Rattle.player.specs.declared.Tick.the-variants as tick
@@ -15,10 +15,10 @@ use Rattle.meter.proofs.registers.meter_player_step.Tie as tie
 
 module _ (p : Player) (was : ℤ) {s : Stepped} (e : s ≡ stepOutcome p) where
   stepped : {x y : ℤ} → tick.Sign x ≡ s .tick → y ≡ x → (0, s .player, y) ≡ stepDoor p was
-  stepped {x} t q = rw q (ap (λ k. (tickNumber k, s .player, signOut was k)) t ∙ ap (steppedOut was) e)
+  stepped {x} t q = rw q (ap (λ k. (tickNumber k, s .player, tickMeans k .1 was)) t ∙ ap (steppedOut was) e)
 
   stayed : {n : ℕ} → tick.Refused n ≡ s .tick → (n, s .player, was) ≡ stepDoor p was
-  stayed t = ap (λ k. (tickNumber k, s .player, signOut was k)) t ∙ ap (steppedOut was) e
+  stayed t = ap (λ k. (tickNumber k, s .player, tickMeans k .1 was)) t ∙ ap (steppedOut was) e
 
 step-player-requires : tie.Need-step-player-requires
 step-player-requires c κs = search needs

@@ -1,5 +1,4 @@
 -- `meter::verdicts::write_summary` meets its contract. Assumes nothing.
-use mathlib.Core.Path.{refl}
 use borrow.Author.Needs.{needs}
 use Rattle.meter.proofs.verdicts.write_summary.Statement.{statement}
 use Rattle.meter.proofs.verdicts.write_summary.Tie as tie
@@ -14,13 +13,13 @@ enum-known-summary-2 : tie.Need-enum-known-summary-2
 enum-known-summary-2 c = search needs
 
 returns : tie.Need-returns
-returns c = rw (c .enum-told .given .1) (refl, refl, refl)
+returns c = rw (c .enum-told .given .1)
 
 returns-2 : tie.Need-returns-2
-returns-2 c = rw (c .before .summary .given .1) (refl, refl, refl)
+returns-2 c = rw (c .before .summary .given .1)
 
 returns-3 : tie.Need-returns-3
-returns-3 c = rw (c .before .summary2 .given .1) (refl, refl, refl)
+returns-3 c = rw (c .before .summary2 .given .1)
 
 pub write-summary-spec : {M : Type 1} → statement M
 write-summary-spec =
