@@ -1,5 +1,4 @@
 -- The laws of the C door.
-pub mod Copying
+mod Copying
 pub mod Opening
 pub mod Starting
-pub mod Untouched

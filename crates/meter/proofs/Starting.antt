@@ -40,17 +40,18 @@ module _ (N taps C : ℕ) (days slots : List ℕ) (store sums : List ℤ) where
   abbrev made : ℕ × List ℕ × List ℕ × List ℤ × List ℤ
   made = (0, put (fresh N taps C .days) days, put (fresh N taps C .table) slots, clearedWide (C * P N) store, clearedWide (P N) sums)
 
+  abbrev memoryShort : Bool
+  memoryShort = ltb (length store) (C * P N) || ltb (length sums) (P N)
+
   -- the last two checks of a start, by what the last test says
   abbrev rest : Bool → List (ℕ × Bool)
   rest short = (9, slotsOut C) ∷ (6, short) ∷ []
 
+  -- with a short table the answer is that of a start with no memory
   pub short-refused : tablesShort days slots ≡ true → first (startChecks N taps C [] []) ≡ first (startDoorChecks N taps C days slots store sums)
   unfolding tapsAnswer
-  short-refused h = by-taps (first (tapsChecks N taps)) refl ∙ ap (λ b. first (tapsChecks N taps ++ rest (b || memory))) (sym h)
+  short-refused h = by-taps (first (tapsChecks N taps)) refl ∙ ap (λ b. first (tapsChecks N taps ++ rest (b || memoryShort))) (sym h)
     where
-      memory : Bool
-      memory = ltb (length store) (C * P N) || ltb (length sums) (P N)
-
       by-taps : (n : ℕ) → first (tapsChecks N taps) ≡ n
           → first (tapsChecks N taps ++ rest (ltb 0 (C * P N) || ltb 0 (P N))) ≡ first (tapsChecks N taps ++ rest true)
       by-taps zero e = ap (λ b. first (tapsChecks N taps ++ rest b)) (no-memory N taps C e)
@@ -58,11 +59,24 @@ module _ (N taps C : ℕ) (days slots : List ℕ) (store sums : List ℤ) where
           refused-first (tapsChecks N taps) (rest (ltb 0 (C * P N) || ltb 0 (P N))) (λ z. omega (arith, sym e ∙ z))
           ∙ sym (refused-first (tapsChecks N taps) (rest true) (λ z. omega (arith, sym e ∙ z)))
 
+  -- with long tables the checks are the call's own
+  pub long-checks : tablesShort days slots ≡ false → first (startDoorChecks N taps C days slots store sums) ≡ first (startChecks N taps C store sums)
+  long-checks h = ap (λ b. first (tapsChecks N taps ++ rest (b || memoryShort))) h
+
+  pub start-opened : tablesShort days slots ≡ false → startDoor N taps C days slots store sums ≡ startedOut days slots (startOutcome (recordOf N taps C days slots) N taps C store sums)
+  unfolding startDoor startOutcome
+  start-opened h = ap (λ n. answered n back made) (long-checks h) ∙ by-answer (first (startChecks N taps C store sums))
+    where
+      by-answer : (n : ℕ) → answered n back made
+          ≡ startedOut days slots (answered n (λ n. (record { answer = n; campaign = recordOf N taps C days slots }, store, sums)) (record { answer = 0; campaign = fresh N taps C }, clearedWide (C * P N) store, clearedWide (P N) sums))
+      by-answer zero = refl
+      by-answer (suc n) = sym (put-backs days slots (long days slots h) (λ d t. (suc n, d, t, store, sums)))
+
   -- past the checks both tables are long
   checked-long : first (startDoorChecks N taps C days slots store sums) ≡ 0 → tablesShort days slots ≡ false
   checked-long z =
       let p = passes (startDoorChecks N taps C days slots store sums) tt z in
-      or-false (tablesShort days slots) (ltb (length store) (C * P N) || ltb (length sums) (P N)) (p .1 .1 .1 .1 .1 .0) .0
+      or-false (tablesShort days slots) memoryShort (p .1 .1 .1 .1 .1 .0) .0
 
   pub short-some : tablesShort days slots ≡ true → first (startDoorChecks N taps C days slots store sums) ≡ 0 → ⊥
   short-some h z = subst T (sym h ∙ checked-long z) tt
@@ -74,16 +88,3 @@ module _ (N taps C : ℕ) (days slots : List ℕ) (store sums : List ℤ) where
       by-answer : (n : ℕ) → answered n back made .0 ≡ 0 → n ≡ 0
       by-answer zero z = refl
       by-answer (suc n) z = z
-
-  -- with long tables the checks are the call's own
-  pub long-checks : tablesShort days slots ≡ false → first (startDoorChecks N taps C days slots store sums) ≡ first (startChecks N taps C store sums)
-  long-checks h = ap (λ b. first (tapsChecks N taps ++ rest (b || (ltb (length store) (C * P N) || ltb (length sums) (P N))))) h
-
-  pub start-opened : tablesShort days slots ≡ false → startDoor N taps C days slots store sums ≡ startedOut days slots (startOutcome (recordOf N taps C days slots) N taps C store sums)
-  unfolding startDoor startOutcome
-  start-opened h = ap (λ n. answered n back made) (long-checks h) ∙ by-answer (first (startChecks N taps C store sums))
-    where
-      by-answer : (n : ℕ) → answered n back made
-          ≡ startedOut days slots (answered n (λ n. (record { answer = n; campaign = recordOf N taps C days slots }, store, sums)) (record { answer = 0; campaign = fresh N taps C }, clearedWide (C * P N) store, clearedWide (P N) sums))
-      by-answer zero = refl
-      by-answer (suc n) = sym (put-backs days slots (long days slots h) (λ d t. (suc n, d, t, store, sums)))
