@@ -12,7 +12,7 @@ use Rattle.register.specs.Register.{dot, step, window, bit, wave, period}
 use Rattle.register.specs.Calls.{tapsAnswer}
 use Rattle.response.specs.Response as formula
 use Rattle.rounding.specs.Rounding.{nearest, rounded}
-use Rattle.records.specs.Record.{standing, together, fresh, filed}
+use Rattle.records.specs.Record.{standing, overloaded, dead, state, together, fresh, filed}
 use Rattle.campaign.specs.Calls.{enterOutcome, withdrawOutcome}
 use Rattle.trend.specs.Calls.{responseOutcome}
 use Rattle.history.specs.Run.{World, enter, withdraw, response, after, answer, run}
@@ -25,6 +25,10 @@ of C = record { campaign = fresh 3 3 C; store = replicate 14 (pos 0); sums = rep
 
 abbrev verdict : World → ℕ → List ℤ → Verdict
 verdict w d y = enterOutcome (w .campaign) (w .store) (w .sums) d y .0 .entry .verdict
+
+-- the state that the entry leaves its day in
+abbrev leaves : World → ℕ → List ℤ → ℕ
+leaves w d y = state (enterOutcome (w .campaign) (w .store) (w .sums) d y .0 .campaign) d
 
 -- seven samples, the first of them z
 abbrev with : ℤ → List ℤ
@@ -42,6 +46,10 @@ pub record Entries : Type 0 where
   pub may-stand : verdict (of 2) 1 (with (pos 8388606)) ≡ Kept 0
   pub overloads : verdict (of 2) 1 (with (pos 8388607)) ≡ Overloaded 0
   pub overloads-low : verdict (of 2) 1 (pos 0 ∷ negsuc 8388607 ∷ replicate 5 (pos 0)) ≡ Overloaded 1
+  -- no night is dropped without a word: its day says what became of it
+  pub kept-marked : leaves (of 2) 1 (with (pos 1)) ≡ standing
+  pub overload-marked : leaves (of 2) 1 (with (pos 8388607)) ≡ overloaded
+  pub dead-marked : leaves (of 2) 1 (replicate 7 (pos 5)) ≡ dead
   pub out-of-range : verdict (of 2) 1 (with (pos 8388608)) ≡ Refused 7
   pub day-0 : verdict (of 2) 0 (with (pos 1)) ≡ Refused 10
   pub day-367 : verdict (of 2) 367 (with (pos 1)) ≡ Refused 10
@@ -60,6 +68,9 @@ entries =
       may-stand = refl;
       overloads = refl;
       overloads-low = refl;
+      kept-marked = refl;
+      overload-marked = refl;
+      dead-marked = refl;
       out-of-range = refl;
       day-0 = refl;
       day-367 = refl;
