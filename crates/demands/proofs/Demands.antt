@@ -1,10 +1,11 @@
 -- The three demands, each in the user's words and then as laws, over the public definitions alone: the outcome function of each call, which its
 -- contract says it meets (docs/PROMISES.md has the table), and the runs of `history`, Run. Assumes nothing.
 --
--- The words used. `first checks` is the number of the first check whose test holds, 0 where none does. `P N` is 2^N - 1, `window N taps k` the register
--- after k steps from N ones, which is P N, and `wave N taps k` the signal 1 - 2·s(k). `at l j` is place j of a list, `sum n f` the sum of f 0 to f (n - 1).
--- `run w₀ cs` is the world, a record with the memory lent, after the calls cs, the latest first. `made w₀ cs d` is what the last accepted call naming
--- day d made it, or unseen; `heard w₀ cs d` is the last recording accepted for it; `begun w₀ cs` is the record that the last accepted start made.
+-- The words used. `first checks` is the number of the first check whose test holds, 0 where none does; `numbers checks` are the numbers of all. `P N` is
+-- 2^N - 1, `window N taps k` the register after k steps from N ones, which is P N, and `wave N taps k` the signal 1 - 2·s(k). `at l j` is place j of a
+-- list, `sum n f` the sum of f 0 to f (n - 1). `run w₀ cs` is the world, a record with the memory lent, after the calls cs, the latest first.
+-- `made w₀ cs d` is what the last accepted call naming day d made it, or unseen; `heard w₀ cs d` is the last recording accepted for it; `begun w₀ cs` is
+-- the record that the last accepted start made.
 use mathlib.Core.Path.{_≡_, refl}
 use mathlib.Core.Logic.{_↔_}
 use mathlib.Core.Bool.{Bool, true, false, cond, not, _&&_}
@@ -17,7 +18,7 @@ use lib.IntN.{ℤ, pos, negsuc, natAbs, _-ℤ_, _*ℤ_}
 use lib.ListN.{length, getD, replicate}
 use Rattle.sums.specs.Sum.{sum, total, sign}
 use Rattle.sums.specs.Lists.{at, table, put, putAt, seek, some, every, many}
-use Rattle.sums.specs.Refusals.{first, outcome}
+use Rattle.sums.specs.Refusals.{first, numbers, outcome}
 use Rattle.register.specs.Register.{P, dot, step, window, bit, wave, period, Maximal}
 use Rattle.register.proofs.OddTaps.{accepted-maximal}
 use Rattle.register.specs.Calls.{orderOut, shapeChecks, tapsChecks, tapsAnswer, sequenceChecks, sequenceOutcome}
@@ -58,11 +59,6 @@ use Rattle.demands.proofs.Measuring.{sequence-at, response-at, response
 -- no other. A refused call changes nothing in the caller's memory or record."
 --
 -- A function with a proved contract ends, and each contract is an equation to the outcome function named here. `advance` has step's and `fill` play's.
-
--- the numbers of a list of checks
-abbrev pub numbers : List (ℕ × Bool) → List ℕ
-numbers [] = []
-numbers (check ∷ checks) = check .0 ∷ numbers checks
 
 -- the checks come in this order; the answer's number is that of the first whose test holds, 0 where none does; a refused call hands back what came in
 pub record Checked {A : Type 0} (order : List ℕ) (checks : List (ℕ × Bool)) (number : A → ℕ) (back : ℕ → A) (o : A) : Type 0 where

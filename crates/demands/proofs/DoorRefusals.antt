@@ -6,7 +6,7 @@ use mathlib.Core.List.{List, [], _∷_}
 use Prim.Native.Nat.{ℕ, _≤_}
 use lib.IntN.{ℤ}
 use lib.ListN.{length}
-use Rattle.sums.specs.Refusals.{outcome}
+use Rattle.sums.specs.Refusals.{numbers, outcome}
 use Rattle.register.specs.Calls.{orderOut, shapeChecks}
 use Rattle.player.specs.Calls.{stepChecks}
 use Rattle.player.specs.declared.Player.{Player}
@@ -18,7 +18,7 @@ use Rattle.trend.specs.declared.Levels.{Levels}
 use Rattle.meter.specs.Players.{defaultOut, defaultDoor, newOut, newDoor, steppedOut, stepDoor, playedOut, playDoor}
 use Rattle.meter.specs.Doors.{tablesShort, recordOf, behind, startDoorChecks, startDoor, enteredOut, enterDoor, withdrawnOut, withdrawDoor, countedOut, countsDoor, responseDoor, summedOut, summaryDoor}
 use Rattle.meter.proofs.Opening.{long, put-backs}
-use Rattle.demands.proofs.Demands.{Checked, numbers, checked, enterAll, demand-1}
+use Rattle.demands.proofs.Demands.{Checked, checked, enterAll, demand-1}
 
 -- `meter_taps`, `meter_sequence`, `meter_recording` and `meter_predict` have the calls' own outcome functions, of which `demand-1` speaks
 pub record DoorRefusals : Type 0 where

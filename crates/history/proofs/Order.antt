@@ -8,10 +8,10 @@ use lib.IntN.{ℤ, pos}
 use lib.ListN.{replicate}
 use Rattle.sums.specs.Sum.{sum, total}
 use Rattle.sums.specs.Lists.{seek, some, every, many, table, put, putAt}
+use Rattle.sums.specs.Refusals.{numbers}
 use Rattle.register.specs.Register.{dot, step, window, period}
 use Rattle.register.specs.Calls.{tapsChecks, tapsAnswer, sequenceChecks, sequenceOutcome, shapeChecks}
 use Rattle.player.specs.Calls.{stepChecks, newOutcome, stepOutcome, playOutcome, newNumber, tickNumber}
-use Rattle.response.proofs.Order.{numbers}
 use Rattle.response.proofs.Order as response
 use Rattle.records.specs.Record.{standing, together, fresh, filed}
 use Rattle.campaign.specs.Calls.{startChecks, startOutcome, enterChecks, enterOutcome, withdrawChecks, withdrawOutcome}

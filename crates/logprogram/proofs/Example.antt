@@ -2,11 +2,9 @@
 use mathlib.Core.Path.{_≡_, refl}
 use mathlib.Core.List.{List, [], _∷_, _++_}
 use Prim.Native.Nat.{ℕ}
-use Prim.Native.Char.{code}
-use Prim.Native.String.{String}
-use Prim.Native.String as text
 use lib.Count.{ones}
 use Rattle.sums.specs.Sum.{sum, total, sign}
+use Rattle.sums.specs.Text.{ascii}
 use Rattle.sums.specs.Lists.{seek, some, every, many, table, put, putAt}
 use Rattle.register.specs.Register.{dot, step, window, bit, wave, period}
 use Rattle.register.specs.Calls.{tapsAnswer}
@@ -19,11 +17,6 @@ use Rattle.log.specs.Log.{decoded}
 use Rattle.report.specs.Lines.{digits}
 use Rattle.logbook.specs.Book.{beganOutcome, applied}
 use Rattle.logprogram.specs.Program.{rowsBytes, turn, output, logOutput}
-
--- a text's codes
-abbrev ascii : String → List ℕ
-ascii text.[] = []
-ascii (text._∷_ c s) = code c ∷ ascii s
 
 -- order 3, taps 3, 2 slots; day 1 with -1,-3,-1,3,3,-3,1; day 2 with seven 5s; ask; withdraw 1; ask
 abbrev pub example : List ℕ

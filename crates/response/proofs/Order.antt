@@ -1,21 +1,17 @@
 -- Document 01, "Order of checks", of one recording and a prediction: the checks' numbers as they stand, and for each two neighbours an input to
 -- which both apply, with its answer. Order 2, so that P is 3. Assumes nothing.
 use mathlib.Core.Path.{_≡_, refl}
-use mathlib.Core.List.{List, [], _∷_, map}
-use mathlib.Core.Bool.{Bool}
+use mathlib.Core.List.{List, [], _∷_}
 use Prim.Native.Nat.{ℕ}
 use lib.Count.{ones}
 use lib.IntN.{ℤ, pos}
 use lib.ListN.{replicate}
 use Rattle.sums.specs.Sum.{sum, sign}
 use Rattle.sums.specs.Lists.{seek, some, table, put}
+use Rattle.sums.specs.Refusals.{numbers}
 use Rattle.register.specs.Register.{dot, step, window, bit, wave, period}
 use Rattle.response.specs.Response.{prediction}
 use Rattle.response.specs.Calls.{recordingChecks, recordingOutcome, predictionChecks, predictionOutcome}
-
--- the numbers of a call's checks, in their order
-abbrev pub numbers : List (ℕ × Bool) → List ℕ
-numbers = map (λ check. check .0)
 
 -- two samples, and three with one outside the range
 abbrev two : List ℤ
