@@ -1,5 +1,5 @@
--- The C door inherits the demands: a sequence of door calls on the same lent tables and memory is a run of the library's calls, world and answers,
--- so the third demand holds of a C caller. Assumes nothing.
+-- The third demand, of a C caller: a sequence of door calls on the same lent tables and memory is a run of the library's calls, world and answers.
+-- Assumes nothing.
 use mathlib.Core.Path.{_≡_, refl, sym, ap, ap₂, subst, _∙_}
 use mathlib.Core.Bool.{Bool, true, false, cond}
 use mathlib.Core.List.{List, [], _∷_, _++_}
@@ -204,24 +204,24 @@ module _ (l : Lent) (t : Long (l .days) (l .slots)) where
         )
 
   -- the calls that only ask
-  pub counts-opened : (was : Tally) → countsDoor (l .order) (l .taps) (l .count) (l .days) (l .slots) (l .store) (l .sums) was
+  counts-opened : (was : Tally) → countsDoor (l .order) (l .taps) (l .count) (l .days) (l .slots) (l .store) (l .sums) was
       ≡ countedOut was (countsOutcome mine (l .store) (l .sums))
   unfolding countsDoor
   counts-opened was = sym (opens (l .days) (l .slots) _ _ open-tables)
 
-  pub response-opened : (r mean room : List ℤ) (tags : List ℕ)
+  response-opened : (r mean room : List ℤ) (tags : List ℕ)
       → responseDoor (l .order) (l .taps) (l .count) (l .days) (l .slots) (l .store) (l .sums) r mean room tags
       ≡ responseOutcome mine (l .store) (l .sums) r mean room tags
   unfolding responseDoor
   response-opened r mean room tags = sym (opens (l .days) (l .slots) _ _ open-tables)
 
-  pub summary-opened : (room : List ℤ) (tags : List ℕ) (stood : ℕ) (was : Levels)
+  summary-opened : (room : List ℤ) (tags : List ℕ) (stood : ℕ) (was : Levels)
       → summaryDoor (l .order) (l .taps) (l .count) (l .days) (l .slots) (l .store) (l .sums) room tags stood was
       ≡ summedOut stood was (summaryOutcome mine (l .store) (l .sums) room tags)
   unfolding summaryDoor
   summary-opened room tags stood was = sym (opens (l .days) (l .slots) _ _ open-tables)
 
-  pub follows : (c : DoorCall) → Follows l c
+  follows : (c : DoorCall) → Follows l c
   follows (start N taps C) = follows-start N taps C
   follows (enter d y state value) = follows-enter d y state value
   follows (withdraw d) = follows-withdraw d
@@ -255,9 +255,16 @@ pub record DoorSaid (l : Lent) (cs : List DoorCall) : Type 0 where
   pub as-run : AsRun l cs
   pub said : Said (worldOf l) (behindDoors cs) (worldOf (doorRun l cs))
   pub no-fifteen : (c : DoorCall) → doorAnswer (doorRun l cs) c ≡ 15 → ⊥
+  -- the doors that only ask answer as the calls do
+  pub counts : (was : Tally) → let h = doorRun l cs in let w = worldOf h in
+      countsDoor (h .order) (h .taps) (h .count) (h .days) (h .slots) (h .store) (h .sums) was
+      ≡ countedOut was (countsOutcome (w .campaign) (w .store) (w .sums))
   pub response : (r mean room : List ℤ) (tags : List ℕ) → let h = doorRun l cs in let w = worldOf h in
       responseDoor (h .order) (h .taps) (h .count) (h .days) (h .slots) (h .store) (h .sums) r mean room tags
       ≡ responseOutcome (w .campaign) (w .store) (w .sums) r mean room tags
+  pub summary : (room : List ℤ) (tags : List ℕ) (stood : ℕ) (was : Levels) → let h = doorRun l cs in let w = worldOf h in
+      summaryDoor (h .order) (h .taps) (h .count) (h .days) (h .slots) (h .store) (h .sums) room tags stood was
+      ≡ summedOut stood was (summaryOutcome (w .campaign) (w .store) (w .sums) room tags)
 
 appended : (cs before : List DoorCall) → behindDoors (cs ++ before) ≡ behindDoors cs ++ behindDoors before
 unfolding behindDoors
@@ -272,7 +279,9 @@ door-demand-3 l N taps C e cs =
       as-run = s;
       said = d;
       no-fifteen = λ c h. d .no-fifteen (behindDoor c) (sym (follows (doorRun l all) (s .tables) c .1) ∙ h);
+      counts = counts-opened (doorRun l all) (s .tables);
       response = response-opened (doorRun l all) (s .tables);
+      summary = summary-opened (doorRun l all) (s .tables);
     }
   where
     all : List DoorCall
