@@ -1,5 +1,5 @@
 -- The three demands, each in the user's words and then as laws, over the public definitions alone: the outcome function of each call, which its
--- contract says it meets (docs/PROMISES.md has the table), and the runs of `history`, Run. Assumes nothing.
+-- contract says it meets (docs/PROMISES.md has the table), and the runs of `history`, Run. The same of a C caller: DoorCalls, DoorRuns. Assumes nothing.
 --
 -- The words used. `first checks` is the number of the first check whose test holds, 0 where none does. `P N` is 2^N - 1, `window N taps k` the register
 -- after k steps from N ones, which is P N, and `wave N taps k` the signal 1 - 2·s(k). `at l j` is place j of a list, `sum n f` the sum of f 0 to f (n - 1).
