@@ -1,17 +1,18 @@
 -- The three demands, each in the user's words and then as laws, over the public definitions alone: the outcome function of each call, which its
--- contract says it meets (docs/PROMISES.md has the table), and the runs of `history`, Run. Assumes nothing.
+-- contract says it meets (docs/PROMISES.md has the table), and the runs of `history`, Run. The same of a C caller: DoorCalls, DoorRuns. Assumes nothing.
 --
 -- The words used. `first checks` is the number of the first check whose test holds, 0 where none does; `numbers checks` are the numbers of all. `P N` is
 -- 2^N - 1, `window N taps k` the register after k steps from N ones, which is P N, and `wave N taps k` the signal 1 - 2·s(k). `at l j` is place j of a
 -- list, `sum n f` the sum of f 0 to f (n - 1). `run w₀ cs` is the world, a record with the memory lent, after the calls cs, the latest first.
 -- `made w₀ cs d` is what the last accepted call naming day d made it, or unseen; `heard w₀ cs d` is the last recording accepted for it; `begun w₀ cs` is
 -- the record that the last accepted start made.
-use mathlib.Core.Path.{_≡_, refl}
+use mathlib.Core.Path.{_≡_, refl, sym, ap, _∙_}
 use mathlib.Core.Logic.{_↔_}
-use mathlib.Core.Bool.{Bool, true, false, cond, not, _&&_}
+use mathlib.Core.Bool.{Bool, true, cond, not, _&&_}
 use mathlib.Core.List.{List, [], _∷_, _++_}
 use Prim.Native.Nat.{ℕ, _+_, _-_, _*_, _%_, _^_, _≤_, _<_}
 use native.Mathlib.Numerals.{add-one}
+use native.Mathlib.Omega.{arith}
 use lib.Dec.{eqb, ltb}
 use lib.Count.{ones}
 use lib.IntN.{ℤ, pos, negsuc, natAbs, _-ℤ_, _*ℤ_}
@@ -33,7 +34,7 @@ use Rattle.player.specs.declared.Played.{Played}
 use Rattle.response.specs.Response as formula
 use Rattle.response.specs.Calls.{recordingChecks, recordingOutcome, predictionChecks, predictionOutcome}
 use Rattle.rounding.specs.Rounding.{nearest}
-use Rattle.records.specs.Record.{unseen, standing, overloaded, dead, withdrawn, state, stands, daysIn, together, apart, fresh}
+use Rattle.records.specs.Record.{unseen, standing, overloaded, dead, withdrawn, state, stands, daysIn, together, apart, fresh, filed}
 use Rattle.records.proofs.Refiling.{Day}
 use Rattle.records.specs.declared.Campaign.{Campaign}
 use Rattle.campaign.specs.Calls.{startChecks, startOutcome, enterChecks, railPlace, still, entered, enterOutcome, withdrawChecks, withdrawOutcome, verdictNumber}
@@ -290,56 +291,118 @@ taken-back w₀ cs u d a b y e k =
 
 -- ---- It is about something: order 2, taps 3, two slots, on memory that held nines; two nights, the first withdrawn; computed.
 
-abbrev lent : World
-lent = record { campaign = fresh 3 5 1; store = replicate 7 (pos 9); sums = replicate 4 (pos 9) }
-
 -- the convolutions of 2, 0, -1 and of 1, 0, 0 with the sequence 1, 1, 0
-abbrev night-1 : List ℤ
+abbrev pub night-1 : List ℤ
 night-1 = negsuc 0 ∷ negsuc 2 ∷ pos 3 ∷ []
 
-abbrev night-2 : List ℤ
+abbrev pub night-2 : List ℤ
 night-2 = negsuc 0 ∷ negsuc 0 ∷ pos 1 ∷ []
 
-abbrev nights : List Call
+abbrev pub nights : List Call
 nights = call.enter 2 night-2 ∷ call.enter 1 night-1 ∷ call.start 2 3 2 ∷ []
 
-abbrev asked : World → ℕ × List ℤ × List ℤ × List ℤ × List ℕ
-asked w = responseOutcome (w .campaign) (w .store) (w .sums) (replicate 3 (pos 9)) (replicate 3 (pos 9)) (replicate 4 (pos 9)) (replicate 6 9)
+-- what is lent, and what the start, each night and the withdrawal make of it
+abbrev pub lent : World
+lent = record { campaign = fresh 3 5 1; store = replicate 7 (pos 9); sums = replicate 4 (pos 9) }
+
+abbrev pub began : World
+began =
+    record {
+      campaign = fresh 2 3 2;
+      store = pos 0 ∷ pos 0 ∷ pos 0 ∷ pos 0 ∷ pos 0 ∷ pos 0 ∷ pos 9 ∷ [];
+      sums = pos 0 ∷ pos 0 ∷ pos 0 ∷ pos 9 ∷ [];
+    }
+
+abbrev pub one-night : World
+one-night =
+    record {
+      campaign = filed (fresh 2 3 2) 1 standing 0 1;
+      store = negsuc 0 ∷ negsuc 2 ∷ pos 3 ∷ pos 0 ∷ pos 0 ∷ pos 0 ∷ pos 9 ∷ [];
+      sums = negsuc 0 ∷ negsuc 2 ∷ pos 3 ∷ pos 9 ∷ [];
+    }
+
+abbrev pub two-nights : World
+two-nights =
+    record {
+      campaign = filed (filed (fresh 2 3 2) 1 standing 0 1) 2 standing 1 2;
+      store = negsuc 0 ∷ negsuc 2 ∷ pos 3 ∷ negsuc 0 ∷ negsuc 0 ∷ pos 1 ∷ pos 9 ∷ [];
+      sums = negsuc 1 ∷ negsuc 3 ∷ pos 4 ∷ pos 9 ∷ [];
+    }
+
+abbrev pub one-left : World
+one-left =
+    record {
+      campaign = filed (filed (filed (fresh 2 3 2) 1 standing 0 1) 2 standing 1 2) 1 withdrawn 0 0;
+      store = pos 0 ∷ pos 0 ∷ pos 0 ∷ negsuc 0 ∷ negsuc 0 ∷ pos 1 ∷ pos 9 ∷ [];
+      sums = negsuc 0 ∷ negsuc 0 ∷ pos 1 ∷ pos 9 ∷ [];
+    }
+
+-- a response with one place more than it needs in r
+abbrev pub asked : World → ℕ × List ℤ × List ℤ × List ℤ × List ℕ
+asked w = responseOutcome (w .campaign) (w .store) (w .sums) (replicate 4 (pos 9)) (replicate 3 (pos 9)) (replicate 4 (pos 9)) (replicate 6 9)
 
 pub record Witness : Type 0 where
   pub started : startOutcome (lent .campaign) 2 3 2 (lent .store) (lent .sums) .0 .answer ≡ 0
-  pub under-way : underWay lent (call.withdraw 1 ∷ nights) ≡ true
-  pub first-night : answer (run lent (call.start 2 3 2 ∷ [])) (call.enter 1 night-1) ≡ 0
-  pub second-night : answer (run lent (call.enter 1 night-1 ∷ call.start 2 3 2 ∷ [])) (call.enter 2 night-2) ≡ 0
-  pub both-sums : run lent nights .sums ≡ negsuc 1 ∷ negsuc 3 ∷ pos 4 ∷ pos 9 ∷ []
-  pub both : asked (run lent nights)
-      ≡ (0, pos 12 ∷ pos 0 ∷ negsuc 3 ∷ [], pos 2 ∷ pos 0 ∷ negsuc 0 ∷ [], replicate 4 (pos 0), replicate 6 0)
-  pub withdrawal : answer (run lent nights) (call.withdraw 1) ≡ 0
+  pub begins : run lent (call.start 2 3 2 ∷ []) ≡ began
+  pub first-night : (answer began (call.enter 1 night-1) ≡ 0) × (run lent (call.enter 1 night-1 ∷ call.start 2 3 2 ∷ []) ≡ one-night)
+  pub second-night : (answer one-night (call.enter 2 night-2) ≡ 0) × (run lent nights ≡ two-nights)
+  pub both : asked two-nights ≡ (0, pos 12 ∷ pos 0 ∷ negsuc 3 ∷ pos 9 ∷ [], pos 2 ∷ pos 0 ∷ negsuc 0 ∷ [], replicate 4 (pos 0), replicate 6 0)
+  pub withdrawal : (answer two-nights (call.withdraw 1) ≡ 0) × (run lent (call.withdraw 1 ∷ nights) ≡ one-left)
   pub days : (made lent (call.withdraw 1 ∷ nights) 1 ≡ withdrawn) × (made lent (call.withdraw 1 ∷ nights) 2 ≡ standing)
       × (made lent (call.withdraw 1 ∷ nights) 3 ≡ unseen)
-  pub store : run lent (call.withdraw 1 ∷ nights) .store ≡ pos 0 ∷ pos 0 ∷ pos 0 ∷ negsuc 0 ∷ negsuc 0 ∷ pos 1 ∷ pos 9 ∷ []
-  pub sums : run lent (call.withdraw 1 ∷ nights) .sums ≡ negsuc 0 ∷ negsuc 0 ∷ pos 1 ∷ pos 9 ∷ []
-  pub second : asked (run lent (call.withdraw 1 ∷ nights)) ≡ (0, pos 4 ∷ pos 0 ∷ pos 0 ∷ [], pos 1 ∷ pos 0 ∷ pos 0 ∷ [], replicate 4 (pos 0), replicate 6 0)
+  pub second : asked one-left ≡ (0, pos 4 ∷ pos 0 ∷ pos 0 ∷ pos 9 ∷ [], pos 1 ∷ pos 0 ∷ pos 0 ∷ [], replicate 4 (pos 0), replicate 6 0)
   -- a refused start leaves the campaign, an accepted one begins another
-  pub refused-start : (answer (run lent nights) (call.start 17 3 2) ≡ 1) × (run lent (call.start 17 3 2 ∷ nights) ≡ run lent nights)
-  pub new-start : (answer (run lent nights) (call.start 2 3 1) ≡ 0) × (made lent (call.start 2 3 1 ∷ nights) 2 ≡ unseen)
-      × (run lent (call.start 2 3 1 ∷ nights) .sums ≡ pos 0 ∷ pos 0 ∷ pos 0 ∷ pos 9 ∷ [])
+  pub refused-start : (answer two-nights (call.start 17 3 2) ≡ 1) × (after two-nights (call.start 17 3 2) ≡ two-nights)
+  pub new-start : (answer two-nights (call.start 2 3 1) ≡ 0)
+      × (after two-nights (call.start 2 3 1)
+      ≡ record {
+        campaign = fresh 2 3 1;
+        store = pos 0 ∷ pos 0 ∷ pos 0 ∷ negsuc 0 ∷ negsuc 0 ∷ pos 1 ∷ pos 9 ∷ [];
+        sums = pos 0 ∷ pos 0 ∷ pos 0 ∷ pos 9 ∷ [];
+      })
+
+start-computed : (startOutcome (lent .campaign) 2 3 2 (lent .store) (lent .sums) .0 .answer ≡ 0) × (after lent (call.start 2 3 2) ≡ began)
+unfolding startOutcome period seek table put window step dot ones
+start-computed = (refl, refl)
+
+first-computed : (answer began (call.enter 1 night-1) ≡ 0) × (after began (call.enter 1 night-1) ≡ one-night)
+unfolding enterOutcome together tapsAnswer period seek some every many total sum table put putAt window step dot ones
+first-computed = (refl, refl)
+
+second-computed : (answer one-night (call.enter 2 night-2) ≡ 0) × (after one-night (call.enter 2 night-2) ≡ two-nights)
+unfolding enterOutcome together tapsAnswer period seek some every many total sum table put putAt window step dot ones
+second-computed = (refl, refl)
+
+withdrawal-computed : (answer two-nights (call.withdraw 1) ≡ 0) × (after two-nights (call.withdraw 1) ≡ one-left)
+unfolding withdrawOutcome together tapsAnswer period seek some every many total sum table put putAt window step dot ones
+withdrawal-computed = (refl, refl)
+
+led : (run lent (call.start 2 3 2 ∷ []) ≡ began) × (run lent (call.enter 1 night-1 ∷ call.start 2 3 2 ∷ []) ≡ one-night)
+    × (run lent nights ≡ two-nights) × (run lent (call.withdraw 1 ∷ nights) ≡ one-left)
+unfolding run
+led =
+    let a = start-computed .1 in
+    let b = ap (λ w. after w (call.enter 1 night-1)) a ∙ first-computed .1 in
+    let c = ap (λ w. after w (call.enter 2 night-2)) b ∙ second-computed .1 in
+    (a, b, c, ap (λ w. after w (call.withdraw 1)) c ∙ withdrawal-computed .1)
 
 pub witness : Witness
-unfolding run made underWay startOutcome enterOutcome withdrawOutcome responseOutcome together tapsAnswer period seek some every many total sum sign table put putAt nearest formula.response formula.correlation wave bit window step dot ones
+unfolding startOutcome responseOutcome together tapsAnswer period seek some every many total sum sign table put nearest formula.response formula.correlation wave bit window step dot ones
 witness =
     record {
-      started = refl;
-      under-way = refl;
-      first-night = refl;
-      second-night = refl;
-      both-sums = refl;
+      started = start-computed .0;
+      begins = led .0;
+      first-night = (first-computed .0, led .1);
+      second-night = (second-computed .0, led .2);
       both = refl;
-      withdrawal = refl;
-      days = (refl, refl, refl);
-      store = refl;
-      sums = refl;
+      withdrawal = (withdrawal-computed .0, led .3);
+      days = (day 1 (omega arith) (omega arith), day 2 (omega arith) (omega arith), day 3 (omega arith) (omega arith));
       second = refl;
       refused-start = (refl, refl);
-      new-start = (refl, refl, refl);
+      new-start = (refl, refl);
     }
+  where
+    day : (d : ℕ) → 1 ≤ d → d ≤ 366 → made lent (call.withdraw 1 ∷ nights) d ≡ state (one-left .campaign) d
+    day d a b =
+        sym (demand-3 lent 2 3 2 (start-computed .0) (call.withdraw 1 ∷ call.enter 2 night-2 ∷ call.enter 1 night-1 ∷ []) .each-day d a b)
+        ∙ ap (λ w. state (w .campaign) d) (led .3)

@@ -2,7 +2,8 @@
 mod Checking
 mod Tails
 mod Measuring
+mod Handing
 pub mod Demands
-pub mod DoorRefusals
-pub mod Door
+pub mod DoorCalls
+pub mod DoorRuns
 pub mod Determined

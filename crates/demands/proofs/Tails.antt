@@ -7,7 +7,8 @@ use native.Mathlib.Nat.{mul-le-mul-right, suc-mul}
 use native.Mathlib.Omega.{arith}
 use lib.Dec.{eqb}
 use lib.IntN.{ℤ, pos}
-use lib.ListN.{length, getD}
+use lib.ListN.{length, getD, drop}
+use lib.Seq.{getD-append-add, getD-drop}
 use Rattle.sums.specs.Lists.{table, put, putAt}
 use Rattle.sums.specs.Refusals.{first, answered, outcome}
 use Rattle.sums.proofs.Everywhere.{putAt-after}
@@ -29,10 +30,19 @@ use Rattle.history.proofs.Steps as steps
 use Rattle.demands.specs.Buffers.{KeepsTail}
 
 module _ {A : Type 0} where
-  same : {n : ℕ} {l m : List A} → m ≡ l → KeepsTail n l m
+  pub same : {n : ℕ} {l m : List A} → m ≡ l → KeepsTail n l m
   same e = record { beyond = λ i z _. ap (λ l. getD l i z) e }
 
-  written : (n : ℕ) (f : ℕ → A) (l : List A) → KeepsTail n l (put (table n f) l)
+  -- of a table put over the front
+  pub put-tail : {n : ℕ} (vs l : List A) → length vs ≤ n → KeepsTail n l (put vs l)
+  unfolding put
+  put-tail vs l m = record {
+    beyond = λ i z h.
+        let e : length vs + (i - length vs) ≡ i = omega arith in
+        ap (λ k. getD (put vs l) k z) (sym e) ∙ getD-append-add vs (drop (length vs) l) (i - length vs) z ∙ getD-drop (length vs) l (i - length vs) z ∙ ap (λ k. getD l k z) e;
+  }
+
+  pub written : (n : ℕ) (f : ℕ → A) (l : List A) → KeepsTail n l (put (table n f) l)
   written n f l = record { beyond = λ i z h. at-tail n f l i z h }
 
 -- what holds of a refusal and of what is accepted

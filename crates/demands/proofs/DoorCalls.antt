@@ -1,16 +1,22 @@
--- The first demand, of a C caller: each door answers the first check that holds, and refused it hands back all that was lent. At a start a short table
--- is among the causes of 6; every other door of a campaign looks at the tables first. Assumes nothing.
+-- The first demand, of a C caller: each door answers the first check that holds, refused it hands back all that was lent, and it leaves what is lent
+-- beyond the lengths that it needs. At a start a short table is among the causes of 6; every other door of a campaign looks at the tables first.
+-- Assumes nothing.
 use mathlib.Core.Path.{_≡_, refl, sym, ap, _∙_}
 use mathlib.Core.Bool.{Bool, true, false}
 use mathlib.Core.List.{List, [], _∷_}
-use Prim.Native.Nat.{ℕ, _≤_}
+use Prim.Native.Nat.{ℕ, zero, suc, _+_, _*_, _≤_}
+use native.Mathlib.Omega.{arith}
 use lib.IntN.{ℤ}
-use lib.ListN.{length}
-use Rattle.sums.specs.Refusals.{numbers, outcome}
+use lib.ListN.{length, length-replicate}
+use Rattle.sums.specs.Lists.{put}
+use Rattle.sums.specs.Refusals.{first, numbers, answered, outcome}
+use Rattle.register.specs.Register.{P}
 use Rattle.register.specs.Calls.{orderOut, shapeChecks}
 use Rattle.player.specs.Calls.{stepChecks}
 use Rattle.player.specs.declared.Player.{Player}
-use Rattle.records.specs.Record.{apart}
+use Rattle.response.specs.Calls.{clearedWide}
+use Rattle.records.specs.Record.{apart, fresh}
+use Rattle.records.specs.declared.Campaign.{Campaign}
 use Rattle.campaign.specs.Calls.{withdrawChecks}
 use Rattle.trend.specs.Calls.{responseChecks, summaryChecks}
 use Rattle.trend.specs.declared.Tally.{Tally}
@@ -18,6 +24,9 @@ use Rattle.trend.specs.declared.Levels.{Levels}
 use Rattle.meter.specs.Players.{defaultOut, defaultDoor, newOut, newDoor, steppedOut, stepDoor, playedOut, playDoor}
 use Rattle.meter.specs.Doors.{tablesShort, recordOf, behind, startDoorChecks, startDoor, enteredOut, enterDoor, withdrawnOut, withdrawDoor, countedOut, countsDoor, responseDoor, summedOut, summaryDoor}
 use Rattle.meter.proofs.Opening.{long, put-backs}
+use Rattle.demands.specs.Buffers.{KeepsTail}
+use Rattle.demands.proofs.Tails.{same, put-tail, written, enter-tails, withdraw-tails, response-tails, summary-tails}
+use Rattle.demands.proofs.Handing.{Handed, enter-handed, withdraw-handed, Long, days-long, table-long}
 use Rattle.demands.proofs.Demands.{Checked, checked, enterAll, demand-1}
 
 -- `meter_taps`, `meter_sequence`, `meter_recording` and `meter_predict` have the calls' own outcome functions, of which `demand-1` speaks
@@ -48,6 +57,23 @@ pub record DoorRefusals : Type 0 where
       → Checked (15 ∷ 15 ∷ 6 ∷ []) ((15, tablesShort days slots) ∷ summaryChecks (recordOf N taps C days slots) store sums room tags)
       (λ (o : ℕ × List ℤ × List ℕ × ℕ × Levels). o .0) (λ n. (n, room, tags, stood, was)) (summaryDoor N taps C days slots store sums room tags stood was)
 
+-- the tables' tails too, beyond 366 days and 64 slots
+pub record DoorTails : Type 0 where
+  pub start : (N taps C : ℕ) (days slots : List ℕ) (store sums : List ℤ) → let o = startDoor N taps C days slots store sums in
+      KeepsTail 366 days (o .1) × KeepsTail 64 slots (o .2) × KeepsTail (C * P N) store (o .3) × KeepsTail (P N) sums (o .4)
+  pub enter : (N taps C : ℕ) (days slots : List ℕ) (store sums : List ℤ) (d : ℕ) (y : List ℤ) (state value : ℕ)
+      → let o = enterDoor N taps C days slots store sums d y state value in
+      KeepsTail 366 days (o .1) × KeepsTail 64 slots (o .2) × KeepsTail (C * P N) store (o .3) × KeepsTail (P N) sums (o .4)
+  pub withdraw : (N taps C : ℕ) (days slots : List ℕ) (store sums : List ℤ) (d : ℕ) → let o = withdrawDoor N taps C days slots store sums d in
+      KeepsTail 366 days (o .1) × KeepsTail 64 slots (o .2) × KeepsTail (C * P N) store (o .3) × KeepsTail (P N) sums (o .4)
+  pub response : (N taps C : ℕ) (days slots : List ℕ) (store sums r mean room : List ℤ) (tags : List ℕ)
+      → let o = responseDoor N taps C days slots store sums r mean room tags in
+      KeepsTail (P N) r (o .1) × KeepsTail (P N) mean (o .2) × KeepsTail (P N + 1) room (o .3) × KeepsTail (2 * P N) tags (o .4)
+  pub summary : (N taps C : ℕ) (days slots : List ℕ) (store sums room : List ℤ) (tags : List ℕ) (stood : ℕ) (was : Levels)
+      → let o = summaryDoor N taps C days slots store sums room tags stood was in KeepsTail (P N + 1) room (o .1) × KeepsTail (2 * P N) tags (o .2)
+
+-- ---- the checks
+
 -- a call's outcome on its way out
 through : {A B : Type 0} {order : List ℕ} {checks : List (ℕ × Bool)} {number : B → ℕ} {back : ℕ → B} {o : B} → Checked order checks number back o
     → (tell : A → ℕ) (kept : ℕ → A) (out : B → A) → ((x : B) → tell (out x) ≡ number x) → ((n : ℕ) → out (back n) ≡ kept n) → Checked order checks tell kept (out o)
@@ -68,9 +94,9 @@ behind-tables days slots order checks tell kept opened e told inner = go (tables
     go true h = record { in-order = ap (λ l. 15 ∷ l) e; answer = told 15; unchanged = λ _. ap kept (sym (told 15)) }
     go false h = let c = inner (long days slots h) in record { in-order = ap (λ l. 15 ∷ l) e; answer = c .answer; unchanged = c .unchanged }
 
-pub door-demand-1 : DoorRefusals
+refusals : DoorRefusals
 unfolding startDoor enterDoor withdrawDoor countsDoor responseDoor summaryDoor
-door-demand-1 =
+refusals =
     let calls = demand-1 .0 in
     record {
       default-taps = λ N was. through (calls .default-taps N) _ _ (defaultOut was) (λ x. refl) (λ n. refl);
@@ -95,3 +121,74 @@ door-demand-1 =
           behind-tables days slots _ _ _ _ _ refl (λ n. refl) (λ _.
           through (calls .summary (recordOf N taps C days slots) store sums room tags) _ _ (summedOut stood was) (λ x. refl) (λ n. refl));
     }
+
+-- ---- the tails
+
+-- what holds of a short table's refusal and of an open door
+behind-either : {A : Type 0} (days slots : List ℕ) (kept : ℕ → A) (opened : A) (Q : A → Type 0) → Q (kept 15)
+    → ((366 ≤ length days) × (64 ≤ length slots) → Q opened) → Q (behind days slots kept opened)
+behind-either days slots kept opened Q shut wide = go (tablesShort days slots) refl
+  where
+    go : (b : Bool) → tablesShort days slots ≡ b → Q (outcome ((15, b) ∷ []) kept opened)
+    go true h = shut
+    go false h = wide (long days slots h)
+
+module _ (N taps C : ℕ) (days slots : List ℕ) (store sums : List ℤ) where
+  abbrev All : List ℕ → List ℕ → List ℤ → List ℤ → Type 0
+  All d s m t = KeepsTail 366 days d × KeepsTail 64 slots s × KeepsTail (C * P N) store m × KeepsTail (P N) sums t
+
+  all-same : All days slots store sums
+  all-same = (same refl, same refl, same refl, same refl)
+
+  -- a record handed back, its tables put over the lent ones
+  all-put : (366 ≤ length days) × (64 ≤ length slots) → (c : Campaign) → Handed (recordOf N taps C days slots) c → {m t : List ℤ}
+      → KeepsTail (C * P N) store m × KeepsTail (P N) sums t → All (put (c .days) days) (put (c .table) slots) m t
+  all-put l c h k =
+      let wide : Long days slots = record { days = l .0; slots = l .1 } in (
+        put-tail (c .days) days (omega (arith, days-long N taps C days slots wide c h)),
+        put-tail (c .table) slots (omega (arith, table-long N taps C days slots wide c h)),
+        k .0,
+        k .1,
+      )
+
+  start-all : let o = startDoor N taps C days slots store sums in All (o .1) (o .2) (o .3) (o .4)
+  unfolding startDoor
+  start-all = by-answer (first (startDoorChecks N taps C days slots store sums))
+    where
+      by-answer : (n : ℕ) → let o = answered {A = ℕ × List ℕ × List ℕ × List ℤ × List ℤ} n (λ n. (n, days, slots, store, sums)) (0, put (fresh N taps C .days) days, put (fresh N taps C .table) slots, clearedWide (C * P N) store, clearedWide (P N) sums) in
+          All (o .1) (o .2) (o .3) (o .4)
+      by-answer zero = (
+        put-tail (fresh N taps C .days) days (omega (arith, length-replicate {A = ℕ} 366 0)),
+        put-tail (fresh N taps C .table) slots (omega (arith, length-replicate {A = ℕ} 64 0)),
+        written _ _ _,
+        written _ _ _,
+      )
+      by-answer (suc n) = all-same
+
+tails : DoorTails
+unfolding enterDoor withdrawDoor responseDoor summaryDoor
+tails =
+    record {
+      start = start-all;
+      enter = λ N taps C days slots store sums d y state value.
+          behind-either days slots (λ n. (n, days, slots, store, sums, state, value)) _
+          (λ (o : ℕ × List ℕ × List ℕ × List ℤ × List ℤ × ℕ × ℕ). All N taps C days slots store sums (o .1) (o .2) (o .3) (o .4))
+          (all-same N taps C days slots store sums)
+          (λ l. all-put N taps C days slots store sums l _ (enter-handed (recordOf N taps C days slots) store sums d y) (enter-tails (recordOf N taps C days slots) store sums d y));
+      withdraw = λ N taps C days slots store sums d.
+          behind-either days slots (λ n. (n, days, slots, store, sums)) _
+          (λ (o : ℕ × List ℕ × List ℕ × List ℤ × List ℤ). All N taps C days slots store sums (o .1) (o .2) (o .3) (o .4))
+          (all-same N taps C days slots store sums)
+          (λ l. all-put N taps C days slots store sums l _ (withdraw-handed (recordOf N taps C days slots) store sums d) (withdraw-tails (recordOf N taps C days slots) store sums d));
+      response = λ N taps C days slots store sums r mean room tags.
+          behind-either days slots (λ n. (n, r, mean, room, tags)) _
+          (λ (o : ℕ × List ℤ × List ℤ × List ℤ × List ℕ). KeepsTail (P N) r (o .1) × KeepsTail (P N) mean (o .2) × KeepsTail (P N + 1) room (o .3) × KeepsTail (2 * P N) tags (o .4))
+          (same refl, same refl, same refl, same refl) (λ _. response-tails (recordOf N taps C days slots) store sums r mean room tags);
+      summary = λ N taps C days slots store sums room tags stood was.
+          behind-either days slots (λ n. (n, room, tags, stood, was)) _
+          (λ (o : ℕ × List ℤ × List ℕ × ℕ × Levels). KeepsTail (P N + 1) room (o .1) × KeepsTail (2 * P N) tags (o .2))
+          (same refl, same refl) (λ _. summary-tails (recordOf N taps C days slots) store sums room tags);
+    }
+
+pub door-demand-1 : DoorRefusals × DoorTails
+door-demand-1 = (refusals, tails)

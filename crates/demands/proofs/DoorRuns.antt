@@ -1,26 +1,21 @@
--- The C door inherits the demands: a sequence of door calls on the same lent tables and memory is a run of the library's calls, world and answers,
--- so the third demand holds of a C caller. Assumes nothing.
-use mathlib.Core.Path.{_≡_, refl, sym, ap, ap₂, subst, _∙_}
-use mathlib.Core.Bool.{Bool, true, false, cond}
+-- The third demand, of a C caller: a sequence of door calls on the same lent tables and memory is a run of the library's calls, world and answers.
+-- Assumes nothing.
+use mathlib.Core.Path.{_≡_, refl, sym, ap, subst, _∙_}
+use mathlib.Core.Bool.{false}
 use mathlib.Core.List.{List, [], _∷_, _++_}
-use Prim.Native.Nat.{ℕ, zero, suc, _*_, _≤_}
-use native.Mathlib.Omega.{arith}
+use Prim.Native.Nat.{ℕ, zero, suc, _*_}
 use borrow.Author.Tests.{le-ltb}
-use lib.Dec.{eqb, ltb}
 use lib.IntN.{ℤ}
-use lib.ListN.{length, take, drop, length-set, length-replicate}
+use lib.ListN.{length, length-replicate}
 use lib.Seq.{length-take-le}
 use Rattle.sums.specs.Lists.{put}
 use Rattle.sums.specs.Refusals.{first, answered}
-use Rattle.sums.proofs.Tables.{length-put}
 use Rattle.register.specs.Register.{P}
 use Rattle.response.specs.Calls.{clearedWide}
-use Rattle.records.specs.Record.{standing, daysIn, fresh}
+use Rattle.records.specs.Record.{fresh}
 use Rattle.records.specs.declared.Campaign.{Campaign}
-use Rattle.campaign.specs.Calls.{startChecks, startOutcome, enterChecks, entered, railPlace, still, enterOutcome, withdrawChecks, withdrawOutcome}
+use Rattle.campaign.specs.Calls.{startChecks, startOutcome, enterOutcome, withdrawOutcome}
 use Rattle.campaign.specs.declared.Started.{Started}
-use Rattle.campaign.specs.declared.Entered.{Entered}
-use Rattle.campaign.specs.declared.Withdrawn.{Withdrawn}
 use Rattle.campaign.specs.declared.Verdict.the-variants as verdict
 use Rattle.trend.specs.Calls.{responseOutcome, summaryOutcome, countsOutcome}
 use Rattle.trend.specs.declared.Tally.{Tally}
@@ -30,86 +25,8 @@ use Rattle.meter.specs.Doors.{tablesShort, recordOf, enteredOut, withdrawnOut, 
 use Rattle.meter.proofs.Opening.{opens}
 use Rattle.meter.proofs.Starting.{long-checks, started-long}
 use Rattle.demands.specs.Caller.{Lent, DoorCall, start, enter, withdraw, counts, response, summary, begins, holds, doorAfter, doorAnswer, doorRun, worldOf, behindDoor, behindDoors}
+use Rattle.demands.proofs.Handing.{Handed, enter-handed, withdraw-handed, Long, back-in, still-long}
 use Rattle.demands.proofs.Demands.{Said, demand-3}
-
--- ---- the record through the tables
-
-take-put : {A : Type 0} (n : ℕ) (vs l : List A) → length vs ≡ n → take n (put vs l) ≡ vs
-unfolding put
-take-put n vs l e = ap (λ k. take k (vs ++ drop (length vs) l)) (sym e) ∙ front vs (drop (length vs) l)
-  where
-    front : {A : Type 0} (vs l : List A) → take (length vs) (vs ++ l) ≡ vs
-    front [] l = refl
-    front (v ∷ vs) l = ap (λ t. v ∷ t) (front vs l)
-
--- a record of the same campaign, its tables as long
-record Handed (c c′ : Campaign) : Type 0 where
-  pub order : c′ .order ≡ c .order
-  pub taps : c′ .taps ≡ c .taps
-  pub slots : c′ .slots ≡ c .slots
-  pub days : length (c′ .days) ≡ length (c .days)
-  pub table : length (c′ .table) ≡ length (c .table)
-
-handed-same : (c : Campaign) → Handed c c
-handed-same c = record { order = refl; taps = refl; slots = refl; days = refl; table = refl }
-
-enter-handed : (c : Campaign) (store sums : List ℤ) (d : ℕ) (y : List ℤ) → Handed c (enterOutcome c store sums d y .0 .campaign)
-unfolding enterOutcome
-enter-handed c store sums d y =
-    judged (first (enterChecks c store sums d y)) (ltb (railPlace y) (length y)) (still y) (first ((12, eqb (daysIn c standing) (c .slots)) ∷ [])) _ _ _
-    (record { order = refl; taps = refl; slots = refl; days = length-set (c .days) _ _; table = refl })
-    (record { order = refl; taps = refl; slots = refl; days = length-set (c .days) _ _; table = refl })
-    (record { order = refl; taps = refl; slots = refl; days = length-set (c .days) _ _; table = length-set (c .table) _ _ })
-  where
-    back : ℕ → Entered × List ℤ × List ℤ
-    back n = (entered c d (verdict.Refused n), store, sums)
-
-    judged : (n : ℕ) (a b : Bool) (m : ℕ) (o p k : Entered × List ℤ × List ℤ) → Handed c (o .0 .campaign) → Handed c (p .0 .campaign) → Handed c (k .0 .campaign)
-        → Handed c (answered n (λ n. (entered c d (verdict.Refused n), store, sums)) (cond a o (cond b p (answered m (λ n. (entered c d (verdict.Refused n), store, sums)) k))) .0 .campaign)
-    judged (suc n) a b m o p k x y z = handed-same c
-    judged zero true b m o p k x y z = x
-    judged zero false true m o p k x y z = y
-    judged zero false false (suc m) o p k x y z = handed-same c
-    judged zero false false zero o p k x y z = z
-
-withdraw-handed : (c : Campaign) (store sums : List ℤ) (d : ℕ) → Handed c (withdrawOutcome c store sums d .0 .campaign)
-unfolding withdrawOutcome
-withdraw-handed c store sums d =
-    go (first (withdrawChecks c store sums d)) _ (record { order = refl; taps = refl; slots = refl; days = length-set (c .days) _ _; table = length-set (c .table) _ _ })
-  where
-    go : (n : ℕ) (k : Withdrawn × List ℤ × List ℤ) → Handed c (k .0 .campaign) → Handed c (answered n (λ n. (record { answer = n; campaign = c }, store, sums)) k .0 .campaign)
-    go zero k z = z
-    go (suc n) k z = handed-same c
-
-abbrev campaignOf : ℕ → ℕ → ℕ → List ℕ → List ℕ → Campaign
-campaignOf N taps C days table = record { order = N; taps = taps; slots = C; days = days; table = table }
-
--- tables long enough
-pub record Long (ds ts : List ℕ) : Type 0 where
-  pub days : 366 ≤ length ds
-  pub slots : 64 ≤ length ts
-
-module _ (N taps C : ℕ) (days slots : List ℕ) (l : Long days slots) (c : Campaign) (h : Handed (recordOf N taps C days slots) c) where
-  days-long : length (c .days) ≡ 366
-  days-long = h .days ∙ length-take-le 366 days (l .days)
-
-  table-long : length (c .table) ≡ 64
-  table-long = h .table ∙ length-take-le 64 slots (l .slots)
-
-  -- written to the tables and read again
-  back-in : recordOf N taps C (put (c .days) days) (put (c .table) slots) ≡ c
-  back-in =
-      ap₂ (campaignOf N taps C) (take-put 366 (c .days) days days-long) (take-put 64 (c .table) slots table-long)
-      ∙ ap (λ n. campaignOf n taps C (c .days) (c .table)) (sym (h .order))
-      ∙ ap (λ t. campaignOf (c .order) t C (c .days) (c .table)) (sym (h .taps))
-      ∙ ap (λ s. campaignOf (c .order) (c .taps) s (c .days) (c .table)) (sym (h .slots))
-
-  still-long : Long (put (c .days) days) (put (c .table) slots)
-  still-long =
-      record {
-        days = omega (arith, l .days, length-put (c .days) days (omega (arith, days-long, l .days)));
-        slots = omega (arith, l .slots, length-put (c .table) slots (omega (arith, table-long, l .slots)));
-      }
 
 -- ---- one call
 
@@ -204,24 +121,24 @@ module _ (l : Lent) (t : Long (l .days) (l .slots)) where
         )
 
   -- the calls that only ask
-  pub counts-opened : (was : Tally) → countsDoor (l .order) (l .taps) (l .count) (l .days) (l .slots) (l .store) (l .sums) was
+  counts-opened : (was : Tally) → countsDoor (l .order) (l .taps) (l .count) (l .days) (l .slots) (l .store) (l .sums) was
       ≡ countedOut was (countsOutcome mine (l .store) (l .sums))
   unfolding countsDoor
   counts-opened was = sym (opens (l .days) (l .slots) _ _ open-tables)
 
-  pub response-opened : (r mean room : List ℤ) (tags : List ℕ)
+  response-opened : (r mean room : List ℤ) (tags : List ℕ)
       → responseDoor (l .order) (l .taps) (l .count) (l .days) (l .slots) (l .store) (l .sums) r mean room tags
       ≡ responseOutcome mine (l .store) (l .sums) r mean room tags
   unfolding responseDoor
   response-opened r mean room tags = sym (opens (l .days) (l .slots) _ _ open-tables)
 
-  pub summary-opened : (room : List ℤ) (tags : List ℕ) (stood : ℕ) (was : Levels)
+  summary-opened : (room : List ℤ) (tags : List ℕ) (stood : ℕ) (was : Levels)
       → summaryDoor (l .order) (l .taps) (l .count) (l .days) (l .slots) (l .store) (l .sums) room tags stood was
       ≡ summedOut stood was (summaryOutcome mine (l .store) (l .sums) room tags)
   unfolding summaryDoor
   summary-opened room tags stood was = sym (opens (l .days) (l .slots) _ _ open-tables)
 
-  pub follows : (c : DoorCall) → Follows l c
+  follows : (c : DoorCall) → Follows l c
   follows (start N taps C) = follows-start N taps C
   follows (enter d y state value) = follows-enter d y state value
   follows (withdraw d) = follows-withdraw d
@@ -255,9 +172,16 @@ pub record DoorSaid (l : Lent) (cs : List DoorCall) : Type 0 where
   pub as-run : AsRun l cs
   pub said : Said (worldOf l) (behindDoors cs) (worldOf (doorRun l cs))
   pub no-fifteen : (c : DoorCall) → doorAnswer (doorRun l cs) c ≡ 15 → ⊥
+  -- the doors that only ask answer as the calls do
+  pub counts : (was : Tally) → let h = doorRun l cs in let w = worldOf h in
+      countsDoor (h .order) (h .taps) (h .count) (h .days) (h .slots) (h .store) (h .sums) was
+      ≡ countedOut was (countsOutcome (w .campaign) (w .store) (w .sums))
   pub response : (r mean room : List ℤ) (tags : List ℕ) → let h = doorRun l cs in let w = worldOf h in
       responseDoor (h .order) (h .taps) (h .count) (h .days) (h .slots) (h .store) (h .sums) r mean room tags
       ≡ responseOutcome (w .campaign) (w .store) (w .sums) r mean room tags
+  pub summary : (room : List ℤ) (tags : List ℕ) (stood : ℕ) (was : Levels) → let h = doorRun l cs in let w = worldOf h in
+      summaryDoor (h .order) (h .taps) (h .count) (h .days) (h .slots) (h .store) (h .sums) room tags stood was
+      ≡ summedOut stood was (summaryOutcome (w .campaign) (w .store) (w .sums) room tags)
 
 appended : (cs before : List DoorCall) → behindDoors (cs ++ before) ≡ behindDoors cs ++ behindDoors before
 unfolding behindDoors
@@ -272,7 +196,9 @@ door-demand-3 l N taps C e cs =
       as-run = s;
       said = d;
       no-fifteen = λ c h. d .no-fifteen (behindDoor c) (sym (follows (doorRun l all) (s .tables) c .1) ∙ h);
+      counts = counts-opened (doorRun l all) (s .tables);
       response = response-opened (doorRun l all) (s .tables);
+      summary = summary-opened (doorRun l all) (s .tables);
     }
   where
     all : List DoorCall

@@ -1,0 +1,94 @@
+-- The record through the tables of a C caller: what a call hands back, written to them and read again, is the same, and they stay as long. Assumes
+-- nothing.
+use mathlib.Core.Path.{_≡_, refl, sym, ap, ap₂, _∙_}
+use mathlib.Core.Bool.{Bool, true, false, cond}
+use mathlib.Core.List.{List, [], _∷_}
+use Prim.Native.Nat.{ℕ, zero, suc, _≤_}
+use native.Mathlib.Omega.{arith}
+use lib.Dec.{eqb, ltb}
+use lib.IntN.{ℤ}
+use lib.ListN.{length, take, drop, length-set}
+use lib.Seq.{length-take-le, take-at}
+use Rattle.sums.specs.Lists.{put}
+use Rattle.sums.specs.Refusals.{first, answered}
+use Rattle.sums.proofs.Tables.{length-put}
+use Rattle.records.specs.Record.{standing, daysIn}
+use Rattle.records.specs.declared.Campaign.{Campaign}
+use Rattle.campaign.specs.Calls.{enterChecks, entered, railPlace, still, enterOutcome, withdrawChecks, withdrawOutcome}
+use Rattle.campaign.specs.declared.Entered.{Entered}
+use Rattle.campaign.specs.declared.Withdrawn.{Withdrawn}
+use Rattle.campaign.specs.declared.Verdict.the-variants as verdict
+use Rattle.meter.specs.Doors.{recordOf}
+
+take-put : {A : Type 0} (n : ℕ) (vs l : List A) → length vs ≡ n → take n (put vs l) ≡ vs
+unfolding put
+take-put n vs l e = take-at vs (drop (length vs) l) n e
+
+-- a record of the same campaign, its tables as long
+pub record Handed (c c′ : Campaign) : Type 0 where
+  pub order : c′ .order ≡ c .order
+  pub taps : c′ .taps ≡ c .taps
+  pub slots : c′ .slots ≡ c .slots
+  pub days : length (c′ .days) ≡ length (c .days)
+  pub table : length (c′ .table) ≡ length (c .table)
+
+handed-same : (c : Campaign) → Handed c c
+handed-same c = record { order = refl; taps = refl; slots = refl; days = refl; table = refl }
+
+pub enter-handed : (c : Campaign) (store sums : List ℤ) (d : ℕ) (y : List ℤ) → Handed c (enterOutcome c store sums d y .0 .campaign)
+unfolding enterOutcome
+enter-handed c store sums d y =
+    judged (first (enterChecks c store sums d y)) (ltb (railPlace y) (length y)) (still y) (first ((12, eqb (daysIn c standing) (c .slots)) ∷ [])) _ _ _
+    (record { order = refl; taps = refl; slots = refl; days = length-set (c .days) _ _; table = refl })
+    (record { order = refl; taps = refl; slots = refl; days = length-set (c .days) _ _; table = refl })
+    (record { order = refl; taps = refl; slots = refl; days = length-set (c .days) _ _; table = length-set (c .table) _ _ })
+  where
+    back : ℕ → Entered × List ℤ × List ℤ
+    back n = (entered c d (verdict.Refused n), store, sums)
+
+    judged : (n : ℕ) (a b : Bool) (m : ℕ) (o p k : Entered × List ℤ × List ℤ) → Handed c (o .0 .campaign) → Handed c (p .0 .campaign) → Handed c (k .0 .campaign)
+        → Handed c (answered n (λ n. (entered c d (verdict.Refused n), store, sums)) (cond a o (cond b p (answered m (λ n. (entered c d (verdict.Refused n), store, sums)) k))) .0 .campaign)
+    judged (suc n) a b m o p k x y z = handed-same c
+    judged zero true b m o p k x y z = x
+    judged zero false true m o p k x y z = y
+    judged zero false false (suc m) o p k x y z = handed-same c
+    judged zero false false zero o p k x y z = z
+
+pub withdraw-handed : (c : Campaign) (store sums : List ℤ) (d : ℕ) → Handed c (withdrawOutcome c store sums d .0 .campaign)
+unfolding withdrawOutcome
+withdraw-handed c store sums d =
+    go (first (withdrawChecks c store sums d)) _ (record { order = refl; taps = refl; slots = refl; days = length-set (c .days) _ _; table = length-set (c .table) _ _ })
+  where
+    go : (n : ℕ) (k : Withdrawn × List ℤ × List ℤ) → Handed c (k .0 .campaign) → Handed c (answered n (λ n. (record { answer = n; campaign = c }, store, sums)) k .0 .campaign)
+    go zero k z = z
+    go (suc n) k z = handed-same c
+
+abbrev campaignOf : ℕ → ℕ → ℕ → List ℕ → List ℕ → Campaign
+campaignOf N taps C days table = record { order = N; taps = taps; slots = C; days = days; table = table }
+
+-- tables long enough
+pub record Long (ds ts : List ℕ) : Type 0 where
+  pub days : 366 ≤ length ds
+  pub slots : 64 ≤ length ts
+
+module _ (N taps C : ℕ) (days slots : List ℕ) (l : Long days slots) (c : Campaign) (h : Handed (recordOf N taps C days slots) c) where
+  pub days-long : length (c .days) ≡ 366
+  days-long = h .days ∙ length-take-le 366 days (l .days)
+
+  pub table-long : length (c .table) ≡ 64
+  table-long = h .table ∙ length-take-le 64 slots (l .slots)
+
+  -- written to the tables and read again
+  pub back-in : recordOf N taps C (put (c .days) days) (put (c .table) slots) ≡ c
+  back-in =
+      ap₂ (campaignOf N taps C) (take-put 366 (c .days) days days-long) (take-put 64 (c .table) slots table-long)
+      ∙ ap (λ n. campaignOf n taps C (c .days) (c .table)) (sym (h .order))
+      ∙ ap (λ t. campaignOf (c .order) t C (c .days) (c .table)) (sym (h .taps))
+      ∙ ap (λ s. campaignOf (c .order) (c .taps) s (c .days) (c .table)) (sym (h .slots))
+
+  pub still-long : Long (put (c .days) days) (put (c .table) slots)
+  still-long =
+      record {
+        days = omega (arith, l .days, length-put (c .days) days (omega (arith, days-long, l .days)));
+        slots = omega (arith, l .slots, length-put (c .table) slots (omega (arith, table-long, l .slots)));
+      }
