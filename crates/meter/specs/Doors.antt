@@ -65,7 +65,8 @@ enteredOut days slots state value (e, store, sums) = (
   put (e .campaign .table) slots,
   store,
   sums,
-  verdictMeans (e .entry .verdict) .1 (state, value),
+  verdictMeans (e .entry .verdict) .1 (state, value) .0,
+  verdictMeans (e .entry .verdict) .1 (state, value) .1,
 )
 
 unfoldable pub enterDoor : ℕ → ℕ → ℕ → List ℕ → List ℕ → List ℤ → List ℤ → ℕ → List ℤ → ℕ → ℕ → ℕ × List ℕ × List ℕ × List ℤ × List ℤ × ℕ × ℕ
@@ -102,7 +103,7 @@ responseDoor N taps C days slots store sums r mean room tags =
 -- ---- summary: the answer, the wide room and the tags, whether some day stands, and the levels, which are written where one does
 
 abbrev pub summedOut : ℕ → Levels → Summary × List ℤ × List ℕ → ℕ × List ℤ × List ℕ × ℕ × Levels
-summedOut stood was (s, room, tags) = (summaryNumber s, room, tags, summaryMeans s .1 (stood, was))
+summedOut stood was (s, room, tags) = (summaryNumber s, room, tags, summaryMeans s .1 (stood, was) .0, summaryMeans s .1 (stood, was) .1)
 
 unfoldable pub summaryDoor : ℕ → ℕ → ℕ → List ℕ → List ℕ → List ℤ → List ℤ → List ℤ → List ℕ → ℕ → Levels → ℕ × List ℤ × List ℕ × ℕ × Levels
 summaryDoor N taps C days slots store sums room tags stood was =

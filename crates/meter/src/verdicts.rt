@@ -9,7 +9,7 @@ ghost use Rattle.trend.specs.Calls.{countsMeans, summaryMeans};
 
 // The answer; the state that the verdict gives the day, and the verdict's value, where it is lent.
 pub fn write_verdict(verdict: Verdict, state: &mut u32, value: &mut usize) -> u32
-    ensures { λ r. ⌜ (r, now (state .exit), now (value .exit)) ≡ meant (now (state .entry), now (value .entry)) (verdictMeans verdict) ⌝ }
+    ensures { λ r. ⌜ (r, (now (state .exit), now (value .exit))) ≡ meant (now (state .entry), now (value .entry)) (verdictMeans verdict) ⌝ }
 {
     match verdict {
         Verdict::Kept(s) => {
@@ -65,7 +65,7 @@ pub fn write_summary(
     lowest: &mut f64,
     peak: &mut f64,
 ) -> u32
-    ensures { λ r. ⌜ (r, now (stands .exit), record { highest = now (highest .exit); lowest = now (lowest .exit); peak = now (peak .exit) })
+    ensures { λ r. ⌜ (r, (now (stands .exit), record { highest = now (highest .exit); lowest = now (lowest .exit); peak = now (peak .exit) }))
         ≡ meant (now (stands .entry), record { highest = now (highest .entry); lowest = now (lowest .entry); peak = now (peak .entry) }) (summaryMeans summary) ⌝ }
 {
     match summary {

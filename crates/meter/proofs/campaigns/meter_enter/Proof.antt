@@ -24,11 +24,11 @@ module _ (N taps C : ℕ) (days slots : List ℕ) (store sums : List ℤ) (d : �
   opened : tablesShort days slots ≡ false → {c : Campaign} {e : Entered} {s u : List ℤ} {r q v : ℕ} {days′ slots′ : List ℕ}
       → c ≡ recordOf N taps C days slots → (e, s, u) ≡ enterOutcome c store sums d y
       → (days′ ≡ put (e .campaign .days) days) × (slots′ ≡ put (e .campaign .table) slots)
-      → (r, q, v) ≡ meant (state, value) (verdictMeans (e .entry .verdict))
+      → (r, (q, v)) ≡ meant (state, value) (verdictMeans (e .entry .verdict))
       → (r, days′, slots′, s, u, q, v) ≡ enterDoor N taps C days slots store sums d y state value
   unfolding enterDoor
   opened h {e = e} {s = s} {u = u} k o (f, g) a =
-      through days slots _ (enteredOut days slots state value) {o = (e, s, u)} h (rw (f, g) (ap (λ t. (t .0, put (e .campaign .days) days, put (e .campaign .table) slots, s, u, t .1)) a)) (o ∙ ap (λ c. enterOutcome c store sums d y) k)
+      through days slots _ (enteredOut days slots state value) {o = (e, s, u)} h (rw (f, g) (ap (λ t. (t .0, put (e .campaign .days) days, put (e .campaign .table) slots, s, u, t .1 .0, t .1 .1)) a)) (o ∙ ap (λ c. enterOutcome c store sums d y) k)
 
 tables-short-requires : tie.Need-tables-short-requires
 tables-short-requires c κs = search needs

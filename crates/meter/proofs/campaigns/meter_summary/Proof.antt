@@ -22,11 +22,11 @@ module _ (N taps C : ℕ) (days slots : List ℕ) (store sums room : List ℤ) (
 
   opened : tablesShort days slots ≡ false → {c : Campaign} {s : Summary} {room′ : List ℤ} {tags′ : List ℕ} {r n : ℕ} {l : Levels}
       → c ≡ recordOf N taps C days slots → (s, room′, tags′) ≡ summaryOutcome c store sums room tags
-      → (r, n, l) ≡ meant (stood, was) (summaryMeans s)
+      → (r, (n, l)) ≡ meant (stood, was) (summaryMeans s)
       → (r, room′, tags′, n, l) ≡ summaryDoor N taps C days slots store sums room tags stood was
   unfolding summaryDoor
   opened h {s = s} {room′ = room′} {tags′ = tags′} e o f =
-      through days slots _ (summedOut stood was) {o = (s, room′, tags′)} h (ap (λ t. (t .0, room′, tags′, t .1)) f) (o ∙ ap (λ c. summaryOutcome c store sums room tags) e)
+      through days slots _ (summedOut stood was) {o = (s, room′, tags′)} h (ap (λ t. (t .0, room′, tags′, t .1 .0, t .1 .1)) f) (o ∙ ap (λ c. summaryOutcome c store sums room tags) e)
 
 abbrev levels : (c : tie.Start) → Levels
 levels c = let a = c .args in record { highest = a .highest .now; lowest = a .lowest .now; peak = a .peak .now }

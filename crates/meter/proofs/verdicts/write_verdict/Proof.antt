@@ -1,0 +1,41 @@
+-- `meter::verdicts::write_verdict` meets its contract. Assumes nothing.
+use borrow.Author.Needs.{needs}
+use Rattle.meter.proofs.verdicts.write_verdict.Statement.{statement}
+use Rattle.meter.proofs.verdicts.write_verdict.Tie as tie
+
+enum-known-verdict : tie.Need-enum-known-verdict
+enum-known-verdict c = search needs
+
+enum-known-verdict-2 : tie.Need-enum-known-verdict-2
+enum-known-verdict-2 c = search needs
+
+enum-told : tie.Need-enum-told
+enum-told c = search needs
+
+enum-known-verdict-3 : tie.Need-enum-known-verdict-3
+enum-known-verdict-3 c = search needs
+
+returns : tie.Need-returns
+returns c = rw (c .before .verdict .given .1)
+
+returns-2 : tie.Need-returns-2
+returns-2 c = rw (c .before .verdict2 .given .1)
+
+returns-3 : tie.Need-returns-3
+returns-3 c = rw (c .enum-told .given .1)
+
+returns-4 : tie.Need-returns-4
+returns-4 c = rw (c .before .verdict3 .given .1)
+
+pub write-verdict-spec : {M : Type 1} → statement M
+write-verdict-spec =
+    tie.close
+    (tie.spec
+    enum-known-verdict
+    enum-known-verdict-2
+    enum-told
+    enum-known-verdict-3
+    returns
+    returns-2
+    returns-3
+    returns-4)
