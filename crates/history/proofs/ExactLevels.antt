@@ -1,13 +1,13 @@
 -- Document 01, "Summary": where the days standing are a power of two in number, a summary with room enough answers with levels, and each of the
 -- three that a summary carries is exactly its r over (P+1)·n. Of any record that holds together, which is every one that a run hands back
 -- (EveryRun, `holds`). Assumes nothing.
-use mathlib.Core.Path.{_≡_, sym, ap, subst, _∙_}
+use mathlib.Core.Path.{_≡_, ap, subst}
 use mathlib.Core.Bool.{Bool, true, false, cond, not}
 use mathlib.Core.List.{List}
 use Prim.Native.Nat.{ℕ, _+_, _*_, _^_, _≤_}
 use native.Mathlib.Omega.{arith}
 use borrow.Author.Tests.{le-ltb, ne-eqb}
-use lib.Dec.{eqb, ltb}
+use lib.Dec.{eqb}
 use lib.Ieee.{Float}
 use lib.Ieee.Exact.{HasValue}
 use lib.IntN.{ℤ, natAbs}
