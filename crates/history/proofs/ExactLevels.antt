@@ -1,6 +1,6 @@
 -- Document 01, "Summary": where the days standing are a power of two in number, a summary with room enough answers with levels, and each of the
--- three that a summary carries is exactly its r over (P+1)·n. Of any record that holds together, which is every one that a run hands back
--- (EveryRun, `holds`). Assumes nothing.
+-- three that a summary carries is exactly its r over (P+1)·n. Of any record that holds together, so of every one that a run hands back. Assumes
+-- nothing.
 use mathlib.Core.Path.{_≡_, ap, subst}
 use mathlib.Core.Bool.{Bool, true, false, cond, not}
 use mathlib.Core.List.{List}
@@ -23,6 +23,8 @@ use Rattle.records.specs.declared.Campaign.{Campaign}
 use Rattle.trend.specs.declared.Levels.{Levels}
 use Rattle.trend.specs.declared.Summary.{Summary}
 use Rattle.trend.specs.declared.Summary.the-variants.{Nothing, Measured, Refused}
+use Rattle.history.specs.Run.{World, Call, run, underWay}
+use Rattle.history.proofs.EveryRun.{holds}
 use Rattle.records.proofs.Holding.{holds-together}
 use Rattle.trend.proofs.Leveling.{isNegative, levels-exact}
 
@@ -69,3 +71,10 @@ module _ (c : Campaign) (store sums room : List ℤ) (tags : List ℕ) (h : toge
           accepts (summaryChecks c store sums room tags) (ap not h, (simp (le-ltb (length room) (P (c .order) + 1) long, le-ltb (length tags) (2 * P (c .order)) wide), tt)),
           ne-eqb (daysIn c standing) 0 (λ z. omega (arith, pow-pos m)),
         )
+
+-- so after any run in which a start was accepted
+pub run-levels-carried : (w₀ : World) (cs : List Call) → underWay w₀ cs ≡ true → let w = run w₀ cs in (m : ℕ) → daysIn (w .campaign) standing ≡ 2 ^ m
+    → (room : List ℤ) (tags : List ℕ) (l : Levels) → summaryOutcome (w .campaign) (w .store) (w .sums) room tags .0 ≡ Measured l → Exact (w .campaign) (w .sums) l
+run-levels-carried w₀ cs u m e room tags l =
+    let w = run w₀ cs in
+    levels-carried (w .campaign) (w .store) (w .sums) room tags (holds w₀ cs u) m e l
