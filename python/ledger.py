@@ -54,26 +54,23 @@ class Note(NamedTuple):
 
 
 class Ledger:
-    """The notes of a campaign, in the order of the calls."""
+    """The notes of a campaign, in the order of the calls, and the state that the last accepted call gave each day."""
 
     def __init__(self):
-        self.notes = []
+        self.notes, self.states = [], {}
 
     def accepted(self, day, state, place=None):
         """Notes a call that gave the day this state; the place is an overload's."""
         self.notes.append(Note(day, state, state if place is None else f"{state} at sample {place}"))
+        self.states[day] = state
 
     def failed(self, day, words):
         """Notes a call that changed nothing, and why."""
         self.notes.append(Note(day, None, words))
 
-    def states(self):
-        """The state of each day that an accepted call named: the last of them decides."""
-        return {note.day: note.state for note in self.notes if note.state}
-
     def tally(self):
         """How many days are in each state but the first."""
-        states = list(self.states().values())
+        states = list(self.states.values())
         return {state: states.count(state) for state in STATES[1:]}
 
     def nights(self):
