@@ -44,7 +44,7 @@ class Reader:
         line = self.lines[self.taken]
         self.taken += 1
         rest = line[len(begins) :] if line.startswith(begins) else ""
-        found = re.fullmatch(" (-?[0-9]+)" * numbers + ends, rest)
+        found = re.fullmatch(" (-?[0-9]{1,19})" * numbers + ends, rest)
         if not found:
             raise Fault(f"line {self.taken} is `{line}` where `{begins} ..` is due, for byte {self.at} of the log")
         return [int(word) if number < numbers else word for number, word in enumerate(found.groups())]
