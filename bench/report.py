@@ -172,18 +172,19 @@ def panel(m, left, y, powers, title, names):
         yield f'<text x="{left + PLOT + GAP}" y="{at + 4:.1f}" fill="{colour}" font-weight="{weight}">{SHORTER.get(name, PIECES[name])}</text>'
 
 
-def main(times, compiler, *wish):
-    if wish not in ((), ("--write",)):
+def main(words):
+    if len(words) < 2 or words[2:] not in ([], ["--write"]):
         sys.exit(__doc__)
+    times, compiler = words[:2]
     with open(times) as lines:
         m = Measured(lines)
     measured, asked = [machine(m, compiler), "", *measured_tables(m)], asked_table(m)
     print("\n".join([*measured, "", *asked]))
-    if wish:
+    if words[2:]:
         page = root / "docs/BENCHMARKS.md"
         page.write_text(put(put(page.read_text(), "measured", measured), "asked", asked))
         (root / "docs/benchmarks.svg").write_text(plot(m))
 
 
 if __name__ == "__main__":
-    main(*sys.argv[1:])
+    main(sys.argv[1:])

@@ -35,14 +35,9 @@ def refusal(number, detail=None):
     return f"{words} ({detail})" if detail else words
 
 
-def lengths(period, given):
-    """What refusal 5 leaves unsaid."""
-    return f"P is {period}, {given} given"
-
-
-def slots_taken(slots):
-    """What refusal 12 leaves unsaid."""
-    return f"C is {slots}"
+def details(period, given, slots=None):
+    """The numbers at hand of a recording given, by the refusal whose words leave them unsaid."""
+    return {5: f"P is {period}, {given} given", 12: f"C is {slots}"}
 
 
 class Note(NamedTuple):

@@ -17,7 +17,7 @@ import subprocess
 import tempfile
 from typing import NamedTuple, Optional
 
-from ledger import STATES, Ledger, lengths, refusal, slots_taken
+from ledger import STATES, Ledger, details, refusal
 
 DAYS = 366
 SLOTS = 64
@@ -104,8 +104,8 @@ for _name, _kinds in {
     _function.argtypes, _function.restype = _types(*_kinds), _u32
 
 
-def _call(name, *arguments, details={}):
-    """Calls meter_NAME: an array goes as a pointer and a length, a lent number by reference. Raises on a refusal, with the detail of its number."""
+def _call(name, *arguments, told={}):
+    """Calls meter_NAME: an array goes as a pointer and a length, a lent number by reference. Raises on a refusal, with what is told of its number."""
     flat = []
     for a in arguments:
         if isinstance(a, ctypes.Array):
@@ -116,7 +116,7 @@ def _call(name, *arguments, details={}):
             flat.append(a)
     answer = getattr(_door, "meter_" + name)(*flat)
     if answer != 0:
-        raise Refused(answer, details.get(answer))
+        raise Refused(answer, told.get(answer))
 
 
 # ---- what is handed to C
@@ -224,7 +224,7 @@ def recording(y, order, taps=None):
     """The response r(0) to r(P-1) of a recording of P samples, as whole numbers: (P+1) times the impulse response, where y is one played."""
     (order, taps), y = _register(order, taps), _samples(y, "y")
     out = (ctypes.c_int64 * _period(order))()
-    _call("recording", order, taps, y, out, *_room(order), details={5: lengths(_period(order), len(y))})
+    _call("recording", order, taps, y, out, *_room(order), told=details(_period(order), len(y)))
     return list(out)
 
 
@@ -232,7 +232,7 @@ def predict(h, order, taps=None):
     """The recording predicted from a response of P samples."""
     (order, taps), h = _register(order, taps), _samples(h, "h")
     out = (_i32 * _period(order))()
-    _call("predict", order, taps, h, out, details={5: lengths(_period(order), len(h))})
+    _call("predict", order, taps, h, out, told=details(_period(order), len(h)))
     return list(out)
 
 
@@ -274,8 +274,8 @@ class Campaign:
         day, state, value = _whole(day, "day"), _u32(), _size()
         with self._noting(day):
             y = _samples(y, "y")
-            details = {5: lengths(_period(self.order), len(y)), 12: slots_taken(self._numbers[2])}
-            _call("enter", *self._record(), _number(day, "day"), y, state, value, details=details)
+            told = details(_period(self.order), len(y), self._numbers[2])
+            _call("enter", *self._record(), _number(day, "day"), y, state, value, told=told)
         verdict = Verdict(STATES[state.value], value.value)
         self.ledger.accepted(day, verdict.state, verdict.value if verdict.state == "overloaded" else None)
         return verdict

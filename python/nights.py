@@ -12,7 +12,7 @@ import pathlib
 import re
 import sys
 
-from ledger import STATES, Ledger, lengths, refusal, slots_taken
+from ledger import STATES, Ledger, details, refusal
 
 sys.path.append(str(pathlib.Path(__file__).resolve().parent.parent / "logs"))
 from records import ASK, ENTER, OPEN, SAMPLE, START, WITHDRAW, decode
@@ -79,8 +79,8 @@ class Reader:
         self.hold((answer == 0) == (verdict in VERDICTS), "the answer and the verdict do not go together")
         self.hold_standing(answer != (0 if self.stands(day) else DAY_STANDING), day)
         if answer != 0:
-            details = {5: lengths(self.period, len(self.samples)), 12: slots_taken(self.slots)}
-            self.ledger.failed(day, f"refused {refusal(answer, details.get(answer))}")
+            detail = details(self.period, len(self.samples), self.slots).get(answer)
+            self.ledger.failed(day, f"refused {refusal(answer, detail)}")
             return
         place = next((k for k, value in enumerate(self.samples) if value in RAILS), None)
         self.hold((place is None) != (verdict == "overload"), f"the first sample at a rail: {'none' if place is None else place}")
