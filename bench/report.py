@@ -101,7 +101,8 @@ def machine(m, compiler):
     cpu = cpu[1] if cpu else platform.machine()
     kit = subprocess.run(["rt", "version"], capture_output=True, text=True).stdout.strip()
     commit = subprocess.run(["git", "rev-parse", "--short", "HEAD"], capture_output=True, text=True, cwd=root).stdout.strip()
-    said = f"{datetime.date.today()}: {cpu}, {os.cpu_count()} processors, {platform.system()} {platform.machine()}. Plain C: {compiler}. The meter: {kit}, at {commit}."
+    said = f"{datetime.date.today()}: {cpu}, {os.cpu_count()} processors, {platform.system()} {platform.machine()}."
+    said += f" Plain C: {compiler}. The meter: {kit}, at {commit}."
     return said if "fftw" in m.names else said + " FFTW was not on this machine; (c) is left out."
 
 
@@ -139,7 +140,7 @@ def plot(m):
     shown = [name for _, names in PANELS for name in names if name in m.names]
     logs = [math.log10(m.best[n, name]) for n in m.orders for name in shown]
     low, high = math.floor(min(logs)), math.ceil(max(logs))
-    svg = [f'<svg xmlns="http://www.w3.org/2000/svg" width="{WIDTH}" height="{HEIGHT}" viewBox="0 0 {WIDTH} {HEIGHT}" font-family="sans-serif" font-size="12">']
+    svg = [f'<svg xmlns="http://www.w3.org/2000/svg" width="{WIDTH}" height="{HEIGHT}" font-family="sans-serif" font-size="12">']
     svg += [f"<title>{TITLE}</title>", f'<rect width="{WIDTH}" height="{HEIGHT}" fill="white"/>']
     svg.append(f'<text x="{LEFT}" y="28" font-size="16" font-weight="bold">{TITLE}</text>')
 

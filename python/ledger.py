@@ -41,8 +41,9 @@ def details(period, given, slots=None):
 
 
 class Note(NamedTuple):
-    """A call that named a day: the state that it gave the day, None where it gave none, and that in words."""
+    """A call that named a day, "enter" or "withdraw": the state that it gave the day, None where it gave none, and that in words."""
 
+    call: str
     day: int
     state: Optional[str]
     words: str
@@ -54,14 +55,18 @@ class Ledger:
     def __init__(self):
         self.notes, self.states = [], {}
 
-    def accepted(self, day, state, place=None):
+    def accepted(self, call, day, state, place=None):
         """Notes a call that gave the day this state; the place is an overload's."""
-        self.notes.append(Note(day, state, state if place is None else f"{state} at sample {place}"))
+        self.notes.append(Note(call, day, state, state if place is None else f"{state} at sample {place}"))
         self.states[day] = state
 
-    def failed(self, day, words):
+    def failed(self, call, day, words):
         """Notes a call that changed nothing, and why."""
-        self.notes.append(Note(day, None, words))
+        self.notes.append(Note(call, day, None, words))
+
+    def refused(self, call, day, cause):
+        """Notes a refused call, the cause as `refusal` has it."""
+        self.failed(call, day, f"refused {cause}" if call == "enter" else f"withdrawal refused {cause}")
 
     def tally(self):
         """How many days are in each state but the first."""
@@ -69,11 +74,12 @@ class Ledger:
         return {state: states.count(state) for state in STATES[1:]}
 
     def nights(self):
-        """Each day named, in day order: what gave it its state, and the last failure after that."""
+        """Each day named, in day order: what gave it its state, and after that the last failure of each call, since a withdrawal that failed
+        is not why the day has no recording."""
         said = {}
         for note in self.notes:
-            kept = [] if note.state else [n for n in said.get(note.day, []) if n.state]
-            said[note.day] = kept + [note]
+            before = [] if note.state else said.get(note.day, [])
+            said[note.day] = [n for n in before if n.state or n.call != note.call] + [note]
         return {day: "; then ".join(note.words for note in said[day]) for day in sorted(said)}
 
     def not_in_mean(self, standing):

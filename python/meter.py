@@ -258,34 +258,34 @@ class Campaign:
         return (*self._numbers, *self._tables, *self._lent)
 
     @contextlib.contextmanager
-    def _noting(self, day, call=""):
+    def _noting(self, call, day):
         """Notes why a call that names the day fails, where it does, and lets it fail."""
         try:
             yield
         except Refused as fault:
-            self.ledger.failed(day, f"{call}refused {fault}")
+            self.ledger.refused(call, day, fault)
             raise
         except Exception as fault:
-            self.ledger.failed(day, f"{type(fault).__name__}: {fault}")
+            self.ledger.failed(call, day, f"{type(fault).__name__}: {fault}")
             raise
 
     def enter(self, day, y):
         """The verdict on a day's recording, 1 to 366."""
         day, state, value = _whole(day, "day"), _u32(), _size()
-        with self._noting(day):
+        with self._noting("enter", day):
             y = _samples(y, "y")
             told = details(_period(self.order), len(y), self._numbers[2])
             _call("enter", *self._record(), _number(day, "day"), y, state, value, told=told)
         verdict = Verdict(STATES[state.value], value.value)
-        self.ledger.accepted(day, verdict.state, verdict.value if verdict.state == "overloaded" else None)
+        self.ledger.accepted("enter", day, verdict.state, verdict.value if verdict.state == "overloaded" else None)
         return verdict
 
     def withdraw(self, day):
         """Takes a standing day out again."""
         day = _whole(day, "day")
-        with self._noting(day, "withdrawal "):
+        with self._noting("withdraw", day):
             _call("withdraw", *self._record(), _number(day, "day"))
-        self.ledger.accepted(day, "withdrawn")
+        self.ledger.accepted("withdraw", day, "withdrawn")
 
     def not_in_mean(self):
         """Each day that a call has named and that does not stand, in day order, with the last reason in words: {7: "dead", ..}."""

@@ -80,19 +80,19 @@ class Reader:
         self.hold_standing(answer != (0 if self.stands(day) else DAY_STANDING), day)
         if answer != 0:
             detail = details(self.period, len(self.samples), self.slots).get(answer)
-            self.ledger.failed(day, f"refused {refusal(answer, detail)}")
+            self.ledger.refused("enter", day, refusal(answer, detail))
             return
         place = next((k for k, value in enumerate(self.samples) if value in RAILS), None)
         self.hold((place is None) != (verdict == "overload"), f"the first sample at a rail: {'none' if place is None else place}")
-        self.ledger.accepted(day, VERDICTS[verdict], place)
+        self.ledger.accepted("enter", day, VERDICTS[verdict], place)
 
     def withdraw(self, day):
         (answer,) = self.line(f"withdraw {day}", 1)
         self.hold_standing((answer == 0) == self.stands(day), day)
         if answer == 0:
-            self.ledger.accepted(day, "withdrawn")
+            self.ledger.accepted("withdraw", day, "withdrawn")
         else:
-            self.ledger.failed(day, f"withdrawal refused {refusal(answer)}")
+            self.ledger.refused("withdraw", day, refusal(answer))
 
     def ask(self):
         answer, *counts = self.line("response", 5)
@@ -119,7 +119,7 @@ class Reader:
         self.hold(offset == self.at, f"the log is bad at byte {self.at}")
         self.stopped = f"the log is bad at byte {self.at} of {len(self.log)}; what follows was not read"
         if self.day is not None:
-            self.ledger.failed(self.day, f"opened and not entered: the log is bad at byte {self.at}")
+            self.ledger.failed("enter", self.day, f"opened and not entered: the log is bad at byte {self.at}")
 
     def read(self):
         """Reads both to their ends."""

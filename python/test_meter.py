@@ -133,8 +133,8 @@ class Nights(Case):
         c.enter(5, HIT)
         for number, day, y in [(5, 4, Y[:6]), (7, 3, [BEYOND] * 7), (12, 2, Y), (11, 200, Y), (10, 367, Y), (12, 6, Y)]:
             self.refused(number, c.enter, day, y)
-        self.refused(13, c.withdraw, 5)
-        self.refused(10, c.withdraw, -1)
+        for number, day in [(13, 5), (13, 2), (13, 2), (10, -1)]:
+            self.refused(number, c.withdraw, day)
         with self.assertRaises(TypeError):
             c.enter(8, [1.5] * 7)
         full = "refused 12: verdict kept and C days stand (C is 1)"
@@ -142,7 +142,7 @@ class Nights(Case):
             list(c.not_in_mean().items()),
             [
                 (-1, "withdrawal refused 10: day not 1 to 366"),
-                (2, full),
+                (2, full + "; then withdrawal refused 13: day not standing"),
                 (3, "refused 7: a value outside the sample range"),
                 (4, "refused 5: recording or response not exactly P long (P is 7, 6 given)"),
                 (5, "overloaded at sample 3; then withdrawal refused 13: day not standing"),
