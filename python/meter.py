@@ -1,48 +1,37 @@
 """The response meter from Python: a thin ctypes wrapper over the proved C door (include/meter.h). It needs no numpy.
 
     rt staticlib meter                  # proves the meter and writes target/staticlib/libmeter.a
-    python3 python/example.py           # from a list of nights to the trend, and the nights that are not in it
+    python3 python/example.py           # from a list of nights to the nights that are not in the mean, and the mean
 
 The shared object is linked from that archive at the first import, by `cc`; METER_LIBRARY names another. Samples are whole numbers
-from -8388608 to 8388607; any sequence of them will do. A refused call raises `Refused`, with document 01's number, and changes nothing.
+from -8388608 to 8388607; any sequence of them will do. A refused call raises `Refused`, with document 01's number, and changes nothing;
+a `Campaign` notes it in its ledger, and `not_in_mean()` says which nights are missing and why.
 """
 
+import contextlib
 import ctypes
+import operator
 import os
 import pathlib
 import subprocess
+import tempfile
 from typing import NamedTuple, Optional
+
+from ledger import STATES, Ledger, details, refusal
 
 DAYS = 366
 SLOTS = 64
-STATES = ("unseen", "standing", "overloaded", "dead", "withdrawn")
-
-CAUSES = {
-    1: "order below 2 or above 16",
-    2: "taps not below 2^N",
-    3: "tap 0 clear",
-    4: "register not maximal",
-    5: "recording or response not exactly P long",
-    6: "output or working room too short",
-    7: "a value outside the sample range",
-    8: "a predicted sample outside the sample range",
-    9: "slot count not 1 to 64",
-    10: "day not 1 to 366",
-    11: "day already standing",
-    12: "verdict kept and C days stand",
-    13: "day not standing",
-    14: "nothing standing",
-    15: "record does not hold together",
-    16: "player's window zero or not below 2^N",
-}
 
 
 class Refused(Exception):
-    """A call's refusal: `number` is document 01's."""
+    """A call's refusal: `number` is document 01's, `detail` the numbers at hand where they say more."""
 
-    def __init__(self, number):
-        super().__init__(f"{number}: {CAUSES.get(number, 'unknown')}")
-        self.number = number
+    def __init__(self, number, detail=None):
+        super().__init__(number, detail)
+        self.number, self.detail = number, detail
+
+    def __str__(self):
+        return refusal(self.number, self.detail)
 
 
 class Verdict(NamedTuple):
@@ -64,7 +53,8 @@ class Levels(NamedTuple):
 
 
 def _shared_object():
-    """The path of the shared object, linked from the archive where the archive is newer."""
+    """The path of the shared object, linked from the archive where the archive is newer; it comes whole into its place, so that
+    another process at the same import never finds half of it."""
     named = os.environ.get("METER_LIBRARY")
     if named:
         return named
@@ -75,7 +65,10 @@ def _shared_object():
     if not made.exists() or made.stat().st_mtime < archive.stat().st_mtime:
         made.parent.mkdir(parents=True, exist_ok=True)
         whole = ["-Wl,--whole-archive", str(archive), "-Wl,--no-whole-archive"]
-        subprocess.run([os.environ.get("CC", "cc"), "-shared", "-o", str(made), *whole], check=True)
+        with tempfile.TemporaryDirectory(dir=made.parent) as room:
+            linked = pathlib.Path(room) / made.name
+            subprocess.run([os.environ.get("CC", "cc"), "-shared", "-o", str(linked), *whole], check=True)
+            linked.replace(made)
     return str(made)
 
 
@@ -111,8 +104,8 @@ for _name, _kinds in {
     _function.argtypes, _function.restype = _types(*_kinds), _u32
 
 
-def _call(name, *arguments):
-    """Calls meter_NAME: an array goes as a pointer and a length, a lent number by reference. Raises on a refusal."""
+def _call(name, *arguments, told={}):
+    """Calls meter_NAME: an array goes as a pointer and a length, a lent number by reference. Raises on a refusal, with what is told of its number."""
     flat = []
     for a in arguments:
         if isinstance(a, ctypes.Array):
@@ -123,7 +116,40 @@ def _call(name, *arguments):
             flat.append(a)
     answer = getattr(_door, "meter_" + name)(*flat)
     if answer != 0:
-        raise Refused(answer)
+        raise Refused(answer, told.get(answer))
+
+
+# ---- what is handed to C
+
+
+def _whole(value, name):
+    """A whole number, or a TypeError that names the parameter."""
+    try:
+        return operator.index(value)
+    except TypeError:
+        raise TypeError(f"{name} must be a whole number, not {type(value).__name__}") from None
+
+
+def _number(value, name):
+    """A number that fits C's 32 bits as it is; one that does not is the largest, which every check refuses as it would the number."""
+    value = _whole(value, name)
+    return value if 0 <= value < 2**32 else 2**32 - 1
+
+
+def _samples(values, name):
+    """Samples for C. One beyond 32 bits is the nearest that fits: it is beyond the sample range too, and refused in its own place."""
+    try:
+        each = iter(values)
+    except TypeError:
+        raise TypeError(f"{name} must be a sequence of whole numbers, not {type(values).__name__}") from None
+    values = list(each)
+    return (_i32 * len(values))(*(max(-(2**31), min(_whole(v, "a sample of " + name), 2**31 - 1)) for v in values))
+
+
+def _register(order, taps):
+    """Order and taps; where no taps are given, the order's default ones."""
+    order = _number(order, "order")
+    return order, default_taps(order) if taps is None else _number(taps, "taps")
 
 
 def _period(order):
@@ -131,22 +157,9 @@ def _period(order):
     return (1 << order) - 1 if 2 <= order <= 16 else 1
 
 
-def _samples(values):
-    values = list(values)
-    for v in values:
-        if not -(2**31) <= v < 2**31:
-            raise Refused(7)
-    return (_i32 * len(values))(*values)
-
-
 def _room(order):
     p = _period(order)
     return (ctypes.c_int64 * (p + 1))(), (ctypes.c_uint16 * (2 * p))()
-
-
-def _number(value):
-    """A number that fits C's 32 bits as it is; one that does not is the largest, which every check refuses as it would the number."""
-    return value if 0 <= value < 2**32 else 2**32 - 1
 
 
 # ---- the register
@@ -155,7 +168,7 @@ def _number(value):
 def check_taps(order, taps):
     """Whether the taps are maximal for the order; why not is what `Refused` of any other call says."""
     try:
-        _call("taps", _number(order), _number(taps))
+        _call("taps", _number(order, "order"), _number(taps, "taps"))
     except Refused:
         return False
     return True
@@ -164,15 +177,15 @@ def check_taps(order, taps):
 def default_taps(order):
     """The order's default taps."""
     taps = _u32()
-    _call("default_taps", _number(order), taps)
+    _call("default_taps", _number(order, "order"), taps)
     return taps.value
 
 
 def sequence(order, taps=None):
     """The bits s(0) to s(P-1)."""
-    taps = default_taps(order) if taps is None else taps
+    order, taps = _register(order, taps)
     bits = (ctypes.c_uint8 * _period(order))()
-    _call("sequence", _number(order), _number(taps), bits)
+    _call("sequence", order, taps, bits)
     return list(bits)
 
 
@@ -180,9 +193,8 @@ class Player:
     """Gives the next sign at each sample clock; maximal taps are not asked for."""
 
     def __init__(self, order, taps=None):
-        taps = default_taps(order) if taps is None else taps
         self._numbers = [_u32() for _ in range(4)]
-        _call("player_new", _number(order), _number(taps), *self._numbers)
+        _call("player_new", *_register(order, taps), *self._numbers)
 
     @property
     def window(self):
@@ -200,7 +212,7 @@ class Player:
 
     def play(self, n):
         """The next n signs."""
-        signs = (ctypes.c_int8 * n)()
+        signs = (ctypes.c_int8 * _whole(n, "n"))()
         _call("player_play", *self._numbers, signs)
         return list(signs)
 
@@ -210,17 +222,17 @@ class Player:
 
 def recording(y, order, taps=None):
     """The response r(0) to r(P-1) of a recording of P samples, as whole numbers: (P+1) times the impulse response, where y is one played."""
-    taps = default_taps(order) if taps is None else taps
+    (order, taps), y = _register(order, taps), _samples(y, "y")
     out = (ctypes.c_int64 * _period(order))()
-    _call("recording", _number(order), _number(taps), _samples(y), out, *_room(order))
+    _call("recording", order, taps, y, out, *_room(order), told=details(_period(order), len(y)))
     return list(out)
 
 
 def predict(h, order, taps=None):
     """The recording predicted from a response of P samples."""
-    taps = default_taps(order) if taps is None else taps
+    (order, taps), h = _register(order, taps), _samples(h, "h")
     out = (_i32 * _period(order))()
-    _call("predict", _number(order), _number(taps), _samples(h), out)
+    _call("predict", order, taps, h, out, told=details(_period(order), len(h)))
     return list(out)
 
 
@@ -228,29 +240,56 @@ def predict(h, order, taps=None):
 
 
 class Campaign:
-    """A year of nights: each recording is judged, and what is kept is averaged."""
+    """A year of nights: each recording is judged, and what is kept is averaged. Every call that names a day is noted in `ledger`."""
 
     def __init__(self, order, taps=None, slots=SLOTS):
-        taps = default_taps(order) if taps is None else taps
-        p, room = _period(order), max(1, min(slots, SLOTS))
-        self.order = order
-        self._numbers = _number(order), _number(taps), _number(slots)
+        self._numbers = (*_register(order, taps), _number(slots, "slots"))
+        p, room = _period(self.order), max(1, min(self._numbers[2], SLOTS))
         self._tables = (ctypes.c_uint8 * DAYS)(), (ctypes.c_uint16 * SLOTS)()
         self._lent = (_i32 * (room * p))(), (ctypes.c_int64 * p)()
+        self.ledger = Ledger()
         _call("start", *self._record())
+
+    @property
+    def order(self):
+        return self._numbers[0]
 
     def _record(self):
         return (*self._numbers, *self._tables, *self._lent)
 
+    @contextlib.contextmanager
+    def _noting(self, call, day):
+        """Notes why a call that names the day fails, where it does, and lets it fail."""
+        try:
+            yield
+        except Refused as fault:
+            self.ledger.refused(call, day, fault)
+            raise
+        except Exception as fault:
+            self.ledger.failed(call, day, f"{type(fault).__name__}: {fault}")
+            raise
+
     def enter(self, day, y):
         """The verdict on a day's recording, 1 to 366."""
-        state, value = _u32(), _size()
-        _call("enter", *self._record(), _number(day), _samples(y), state, value)
-        return Verdict(STATES[state.value], value.value)
+        day, state, value = _whole(day, "day"), _u32(), _size()
+        with self._noting("enter", day):
+            y = _samples(y, "y")
+            told = details(_period(self.order), len(y), self._numbers[2])
+            _call("enter", *self._record(), _number(day, "day"), y, state, value, told=told)
+        verdict = Verdict(STATES[state.value], value.value)
+        self.ledger.accepted("enter", day, verdict.state, verdict.value if verdict.state == "overloaded" else None)
+        return verdict
 
     def withdraw(self, day):
         """Takes a standing day out again."""
-        _call("withdraw", *self._record(), _number(day))
+        day = _whole(day, "day")
+        with self._noting("withdraw", day):
+            _call("withdraw", *self._record(), _number(day, "day"))
+        self.ledger.accepted("withdraw", day, "withdrawn")
+
+    def not_in_mean(self):
+        """Each day that a call has named and that does not stand, in day order, with the last reason in words: {7: "dead", ..}."""
+        return self.ledger.not_in_mean(self.states().get("standing", []))
 
     def states(self):
         """The days that are not unseen, by their state: {"standing": [1, 2], "dead": [7], ..}."""
@@ -281,16 +320,10 @@ class Campaign:
 
 
 def trend(nights, order, taps=None, slots=SLOTS):
-    """From a list of nights, (day, samples) each, to the trend and the nights that are not in it, by reason.
-
-    The trend is the mean response of the nights that stand, or None where none does. A reason is a state, or a refusal in document 01's words.
-    """
-    campaign, left_out = Campaign(order, taps, slots), {}
+    """From a list of nights, (day, samples) each, to the mean response of those that stand, None where none does, and the days not in it, as
+    `not_in_mean()` gives them once all are entered."""
+    campaign = Campaign(order, taps, slots)
     for day, y in nights:
-        try:
-            reason = campaign.enter(day, y).state
-        except Refused as refusal:
-            reason = str(refusal)
-        if reason != "standing":
-            left_out.setdefault(reason, []).append(day)
-    return campaign.response()[1] if campaign.summary() else None, left_out
+        with contextlib.suppress(Refused):
+            campaign.enter(day, y)
+    return campaign.response()[1] if campaign.summary() else None, campaign.not_in_mean()

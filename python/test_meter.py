@@ -1,22 +1,33 @@
-"""Tries every call of meter.py on document 01's numbers, and runs the example."""
+"""Tries every call of meter.py on document 01's numbers and on its order of checks, the ledger of nights, and the example."""
+import os
 import pathlib
+import pickle
+import random
+import shutil
 import subprocess
 import sys
+import tempfile
 import unittest
 
-sys.path.insert(0, str(pathlib.Path(__file__).resolve().parent))
+here = pathlib.Path(__file__).resolve().parent
+sys.path.insert(0, str(here))
 import meter
 
 Y = [-1, -3, -1, 3, 3, -3, 1]
 R = [16, 0, -8, 0, 0, 0, 0]
+HIT = Y[:3] + [-8388608] + Y[4:]
+BEYOND = 2**31
 
 
-class Calls(unittest.TestCase):
+class Case(unittest.TestCase):
     def refused(self, number, call, *arguments):
         with self.assertRaises(meter.Refused) as met:
             call(*arguments)
         self.assertEqual(met.exception.number, number)
+        return str(met.exception)
 
+
+class Calls(Case):
     def test_register(self):
         self.assertTrue(meter.check_taps(2, 3))
         self.assertFalse(meter.check_taps(4, 15))
@@ -37,7 +48,6 @@ class Calls(unittest.TestCase):
         self.assertEqual(meter.predict([2, 0, -1, 0, 0, 0, 0], 3), Y)
         self.assertEqual(meter.recording(Y, 3), R)
         self.assertEqual(meter.recording([-8388608] * 7, 3), [67108864] * 7)
-        self.refused(5, meter.recording, Y[:6], 3)
         self.refused(7, meter.recording, [8388608] + Y[1:], 3)
         self.refused(8, meter.predict, [8388607, 8388607, 0, 0, 0, 0, 0], 3)
 
@@ -47,7 +57,7 @@ class Calls(unittest.TestCase):
         self.refused(14, c.response)
         self.assertEqual(c.enter(1, Y), ("standing", 0))
         self.assertEqual(c.enter(2, [5] * 7), ("dead", 0))
-        self.assertEqual(c.enter(366, Y[:3] + [-8388608] + Y[4:]), ("overloaded", 3))
+        self.assertEqual(c.enter(366, HIT), ("overloaded", 3))
         self.refused(10, c.enter, 367, Y)
         self.refused(11, c.enter, 1, Y)
         self.assertEqual(c.counts(), {"unseen": 363, "standing": 1, "overloaded": 1, "dead": 1, "withdrawn": 0})
@@ -61,18 +71,136 @@ class Calls(unittest.TestCase):
         c._tables[0][7] = 5
         self.refused(15, c.counts)
 
+
+class Refusals(Case):
+    def test_a_sample_beyond_32_bits_is_refused_in_its_own_place(self):
+        for value in (BEYOND, -BEYOND - 1, 2**32, -(2**40)):
+            self.refused(1, meter.recording, [value] * 6, 1, 3)
+            self.refused(2, meter.recording, [value] * 6, 3, 8)
+            self.refused(5, meter.recording, [value] * 6, 3)
+            self.refused(7, meter.recording, Y[:6] + [value], 3)
+            self.refused(5, meter.predict, [value] * 8, 3)
+            c = meter.Campaign(3, slots=1)
+            c.enter(1, Y)
+            self.refused(10, c.enter, 0, [value] * 7)
+            self.refused(5, c.enter, 2, [value] * 8)
+            self.refused(7, c.enter, 1, Y[:6] + [value])
+
+    def test_a_wrong_length_says_P_and_the_length_given(self):
+        said = "5: recording or response not exactly P long (P is 7, 6 given)"
+        self.assertEqual(self.refused(5, meter.recording, Y[:6], 3), said)
+        self.assertEqual(self.refused(5, meter.predict, Y[:6], 3), said)
+        self.assertEqual(self.refused(5, meter.Campaign(3).enter, 1, Y[:6]), said)
+
+    def test_a_refusal_keeps_its_number_when_pickled(self):
+        with self.assertRaises(meter.Refused) as met:
+            meter.recording(Y[:6], 3)
+        again = pickle.loads(pickle.dumps(met.exception))
+        self.assertEqual((again.number, str(again)), (5, str(met.exception)))
+
+    def test_a_wrong_type_names_its_parameter(self):
+        c = meter.Campaign(3)
+        for name, call in {
+            "order": lambda: meter.recording(Y, "3"),
+            "taps": lambda: meter.sequence(3, 3.0),
+            "slots": lambda: meter.Campaign(3, 3, "2"),
+            "n": lambda: meter.Player(3).play(None),
+            "y": lambda: c.enter(1, 5),
+            "a sample of y": lambda: c.enter(1, Y[:6] + [1.5]),
+            "a sample of h": lambda: meter.predict("abcdefg", 3),
+            "day": lambda: c.withdraw("1"),
+        }.items():
+            with self.assertRaisesRegex(TypeError, f"^{name} must be ", msg=name):
+                call()
+
+    def test_the_order_of_a_campaign_stays(self):
+        c = meter.Campaign(3)
+        c.enter(1, Y)
+        with self.assertRaises(AttributeError):
+            c.order = 4
+        self.assertEqual((c.order, c.response()[0]), (3, R))
+
+
+class Nights(Case):
+    def test_a_day_entered_again_and_kept_is_not_listed(self):
+        self.assertEqual(meter.trend([(1, HIT), (1, Y)], 3), ([2, 0, -1, 0, 0, 0, 0], {}))
+
+    def test_every_day_named_that_does_not_stand_is_listed(self):
+        c = meter.Campaign(3, slots=1)
+        self.assertEqual(c.not_in_mean(), {})
+        c.enter(200, Y)
+        c.enter(6, [5] * 7)
+        c.enter(5, HIT)
+        for number, day, y in [(5, 4, Y[:6]), (7, 3, [BEYOND] * 7), (12, 2, Y), (11, 200, Y), (10, 367, Y), (12, 6, Y)]:
+            self.refused(number, c.enter, day, y)
+        for number, day in [(13, 5), (13, 2), (13, 2), (10, -1)]:
+            self.refused(number, c.withdraw, day)
+        with self.assertRaises(TypeError):
+            c.enter(8, [1.5] * 7)
+        full = "refused 12: verdict kept and C days stand (C is 1)"
+        self.assertEqual(
+            list(c.not_in_mean().items()),
+            [
+                (-1, "withdrawal refused 10: day not 1 to 366"),
+                (2, full + "; then withdrawal refused 13: day not standing"),
+                (3, "refused 7: a value outside the sample range"),
+                (4, "refused 5: recording or response not exactly P long (P is 7, 6 given)"),
+                (5, "overloaded at sample 3; then withdrawal refused 13: day not standing"),
+                (6, "dead; then " + full),
+                (8, "TypeError: a sample of y must be a whole number, not float"),
+                (367, "refused 10: day not 1 to 366"),
+            ],
+        )
+        c.withdraw(200)
+        c.enter(6, Y)
+        listed = c.not_in_mean()
+        self.assertEqual((listed[200], 6 in listed), ("withdrawn", False))
+
+    def test_the_ledger_says_what_the_core_says(self):
+        draw = random.Random(1)
+        recordings = [Y, [5] * 7, HIT, Y[:6], [BEYOND] * 7]
+        for _ in range(200):
+            c, named = meter.Campaign(3, slots=3), set()
+            for _ in range(40):
+                day = draw.choice([0, 1, 2, 3, 4, 5, 6, 366, 367])
+                named.add(day)
+                try:
+                    c.withdraw(day) if draw.random() < 0.3 else c.enter(day, draw.choice(recordings))
+                except meter.Refused:
+                    pass
+                stands = set(c.states().get("standing", []))
+                self.assertEqual(set(c.not_in_mean()), named - stands)
+                self.assertEqual(c.ledger.tally(), {s: n for s, n in c.counts().items() if s != "unseen"})
+
+
+class Programs(Case):
+    def test_first_import_from_eight_processes_at_once(self):
+        environment = {k: v for k, v in os.environ.items() if k != "METER_LIBRARY"}
+        with tempfile.TemporaryDirectory() as room:
+            root = pathlib.Path(room)
+            shutil.copytree(here, root / "python")
+            (root / "target").mkdir()
+            (root / "target/staticlib").symlink_to(here.parent / "target/staticlib")
+            for _ in range(6):
+                shutil.rmtree(root / "target/python", ignore_errors=True)
+                words = [sys.executable, "-c", "import meter; print(meter.default_taps(8))"]
+                started = [
+                    subprocess.Popen(words, cwd=root / "python", env=environment, stdout=subprocess.PIPE, stderr=subprocess.PIPE, text=True)
+                    for _ in range(8)
+                ]
+                self.assertEqual([process.communicate() for process in started], [("29\n", "")] * 8)
+                self.assertEqual(os.listdir(root / "target/python"), ["libmeter.so"])
+
     def test_example(self):
-        example = pathlib.Path(__file__).resolve().parent / "example.py"
-        done = subprocess.run([sys.executable, str(example)], capture_output=True, text=True, check=True)
+        done = subprocess.run([sys.executable, str(here / "example.py")], capture_output=True, text=True, check=True)
         self.assertEqual(
             done.stdout.split("\n"),
             [
-                "trend [4, 0, -2, 0, 0, 0, 0]",
-                "not in it: [3], dead",
-                "not in it: [4], overloaded",
-                "not in it: [5], 5: recording or response not exactly P long",
-                "not in it: [2], 11: day already standing",
-                "not in it: [6], 12: verdict kept and C days stand",
+                "not in the mean: day 3, dead",
+                "not in the mean: day 4, overloaded at sample 4",
+                "not in the mean: day 5, refused 5: recording or response not exactly P long (P is 7, 6 given)",
+                "not in the mean: day 6, refused 12: verdict kept and C days stand (C is 2)",
+                "mean [4, 0, -2, 0, 0, 0, 0]",
                 "",
             ],
         )

@@ -1,0 +1,89 @@
+"""Makes a log from readable text: `python3 logs/make.py < examples/paper.txt > paper.log`.
+
+The text is that of `second text`: one record a line, `samples` any number of them; `#` begins a comment.
+
+    start 3 3 2
+    day 1
+    samples -1 -3 -1 3 3 -3 1
+    enter
+    ask
+    withdraw 1
+
+Each number has to fit its bytes and no more is checked, so that a log which the program must call bad can be made too. A bad line is named
+with its number, nothing is written, and the exit status is 1; 2 where the input is not text.
+"""
+
+import re
+import sys
+
+from records import ASK, ENTER, OPEN, SAMPLE, START, WITHDRAW, encode
+
+DAY = ("day", 0, 65535)
+NUMBERS = {
+    "start": (START, [("order", 0, 255), ("taps", 0, 65535), ("slots", 0, 255)], "write `start ORDER TAPS SLOTS`"),
+    "day": (OPEN, [DAY], "write `day N`, and the samples on lines of their own"),
+    "enter": (ENTER, [], "nothing may follow `enter`"),
+    "withdraw": (WITHDRAW, [DAY], "write `withdraw N`"),
+    "ask": (ASK, [], "nothing may follow `ask`"),
+}
+
+# White space as Unicode has it: Python's own takes four control characters more.
+WORD = re.compile(r"[\S\x1c-\x1f]+")
+
+
+class BadLine(Exception):
+    """The first bad line, with its number."""
+
+
+def value(word, name, low, high):
+    """A whole number that its place in a log can hold."""
+    found = re.fullmatch("([+-]?)0*([0-9]{1,10})", word)
+    if found and low <= int(found[1] + found[2]) <= high:
+        return int(found[1] + found[2])
+    raise BadLine(f"{name} `{word}` is not a whole number from {low} to {high}")
+
+
+def records(line):
+    """The bytes of a line's records."""
+    words = WORD.findall(line.split("#")[0])
+    if not words:
+        return b""
+    name, *values = words
+    if name == "samples":
+        if not values:
+            raise BadLine("write `samples` and at least one value")
+        return b"".join(encode(SAMPLE, value(word, "sample", -8388608, 8388607)) for word in values)
+    if name not in NUMBERS:
+        raise BadLine(f"`{name}` is not one of start, day, samples, enter, withdraw, ask")
+    kind, places, otherwise = NUMBERS[name]
+    if len(values) != len(places):
+        raise BadLine(otherwise)
+    return encode(kind, *(value(word, *place) for word, place in zip(values, places)))
+
+
+def log_from_text(text):
+    """The log's bytes."""
+    log = []
+    for number, line in enumerate(text.split("\n"), 1):
+        try:
+            log.append(records(line))
+        except BadLine as fault:
+            raise BadLine(f"line {number}: {fault}") from None
+    return b"".join(log)
+
+
+def main():
+    try:
+        log = log_from_text(sys.stdin.buffer.read().decode())
+    except BadLine as fault:
+        print(f"make: {fault}", file=sys.stderr)
+        return 1
+    except UnicodeDecodeError as fault:
+        print(f"make: the input is not text: {fault}", file=sys.stderr)
+        return 2
+    sys.stdout.buffer.write(log)
+    return 0
+
+
+if __name__ == "__main__":
+    sys.exit(main())

@@ -1,0 +1,62 @@
+"""Holds make.py to the examples' logs, and to `second text` on good and bad lines, drawn at random; `door/run` builds the second program before."""
+import pathlib
+import random
+import subprocess
+import sys
+import unittest
+
+here = pathlib.Path(__file__).resolve().parent
+root = here.parent
+sys.path.insert(0, str(here))
+import make
+import records
+
+GOOD = ["start 3 3 2", "start 255 65535 255", "day 1", "samples -8388608 8388607", "samples +3 -0 00003", "enter", "withdraw 65535", "ask # why", ""]
+WORDS = "start day samples enter withdraw ask Start # 0 1 -1 + - 255 256 65536 8388608 -8388609 2147483648 1_0 1.0 0x1".split()
+WORDS += ["9" * 5000, "0" * 5000 + "7", "\u0663", "\ufeff"]
+SPACES = [" ", "  ", "\t", "\r", "\x0b", "\x1c", "\x1f", "\x85", "\xa0", "\u2003", "\u2028", "\u200b"]
+
+
+def run(*words, text):
+    done = subprocess.run(words, input=text.encode(), capture_output=True)
+    return done.returncode, done.stdout, done.stderr.decode().partition(": ")[2]
+
+
+class Make(unittest.TestCase):
+    def test_the_examples(self):
+        texts = sorted((root / "examples").glob("*.txt"))
+        self.assertGreater(len(texts), 0)
+        for text in texts:
+            status, log, said = run(sys.executable, str(here / "make.py"), text=text.read_text())
+            self.assertEqual((status, log, said), (0, text.with_suffix(".log").read_bytes(), ""), msg=text.name)
+
+    def test_a_bad_line_is_named_and_nothing_written(self):
+        status, log, said = run(sys.executable, str(here / "make.py"), text="start 3 3 2\nday 65536\n")
+        self.assertEqual((status, log, said), (1, b"", "line 2: day `65536` is not a whole number from 0 to 65535\n"))
+
+    def test_the_same_as_second(self):
+        draw, refused = random.Random(1), 0
+        for _ in range(500):
+            lines = [draw.choice(GOOD) for _ in range(draw.randrange(4))]
+            if draw.random() < 0.7:
+                lines.append(draw.choice(SPACES).join(draw.choice(WORDS) for _ in range(draw.randrange(1, 5))))
+            text = "\n".join(lines)
+            try:
+                ours = 0, make.log_from_text(text), ""
+            except make.BadLine as fault:
+                ours = 1, b"", f"{fault}\n"
+                refused += 1
+            self.assertEqual(ours, run(root / "second/target/release/second", "text", text=text), msg=repr(text))
+        self.assertTrue(100 < refused < 400)
+
+    def test_what_is_written_is_read_back(self):
+        for record in [(1, 255, 65535, 255), (2, 0), (3, -8388608), (3, 8388607), (3, -1), (4,), (5, 65535), (6,)]:
+            log = records.encode(*record)
+            self.assertEqual(records.decode(log, 0), (list(record[1:]), len(log)))
+            if len(log) > 1:
+                self.assertIsNone(records.decode(log[:-1], 0))
+        self.assertIsNone(records.decode(b"\x07", 0))
+
+
+if __name__ == "__main__":
+    unittest.main()

@@ -1,0 +1,182 @@
+"""nights.py LOG LINES: what became of each night of a log, the nights that are not in the mean first.
+
+    target/bin/meterlog < year.log > year.lines
+    python3 python/nights.py year.log year.lines
+
+It reads the log's bytes and the lines that the log program printed for them (document 01, "The log program"), and calls nothing of the core.
+Each line has to belong to its record, and each `response` line has to count the days as the lines before it do; where one does not it says so on
+standard error, prints no table and ends with 1. The values r and mean are not looked at.
+"""
+
+import pathlib
+import re
+import sys
+
+from ledger import STATES, Ledger, details, refusal
+
+sys.path.append(str(pathlib.Path(__file__).resolve().parent.parent / "logs"))
+from records import ASK, ENTER, OPEN, SAMPLE, START, WITHDRAW, decode
+
+RAILS = (-8388608, 8388607)
+VERDICTS = {"kept": "standing", "overload": "overloaded", "dead": "dead"}
+DAY_STANDING, NOTHING_STANDING = 11, 14
+
+
+class Fault(Exception):
+    """The lines are not those of this log."""
+
+
+class Reader:
+    """A log read along with its lines."""
+
+    def __init__(self, log, lines):
+        self.log, self.at = log, 0
+        self.lines, self.taken = lines, 0
+        self.ledger, self.responses, self.counted = Ledger(), 0, 0
+        self.period = self.slots = self.day = self.samples = None
+        self.stopped = ""
+        self.takes = {START: self.start, OPEN: self.open, SAMPLE: self.sample, ENTER: self.enter, WITHDRAW: self.withdraw, ASK: self.ask}
+
+    def line(self, begins, numbers, ends=""):
+        """The numbers of the next line, which has to begin with these words, and its last word where it has to end with one."""
+        if self.taken == len(self.lines):
+            raise Fault(f"the lines end where `{begins} ..` is due, for byte {self.at} of the log")
+        line = self.lines[self.taken]
+        self.taken += 1
+        rest = line[len(begins) :] if line.startswith(begins) else ""
+        found = re.fullmatch(" (-?[0-9]{1,19})" * numbers + ends, rest)
+        if not found:
+            raise Fault(f"line {self.taken} is `{line}` where `{begins} ..` is due, for byte {self.at} of the log")
+        return [int(word) if number < numbers else word for number, word in enumerate(found.groups())]
+
+    def hold(self, holds, why):
+        if not holds:
+            raise Fault(f"line {self.taken}, `{self.lines[self.taken - 1]}`: {why}")
+
+    def stands(self, day):
+        return self.ledger.states.get(day) == "standing"
+
+    def hold_standing(self, holds, day):
+        self.hold(holds, f"day {day} {'stands' if self.stands(day) else 'does not stand'} there")
+
+    # ---- the records
+
+    def start(self, order, taps, slots):
+        (answer,) = self.line("start", 1)
+        self.period, self.slots = (1 << order) - 1, slots
+        if answer != 0:
+            self.stopped = f"the start was refused {refusal(answer)}; no night was read"
+
+    def open(self, day):
+        self.day, self.samples = day, []
+
+    def sample(self, value):
+        self.samples.append(value)
+
+    def enter(self):
+        day, self.day = self.day, None
+        answer, verdict = self.line(f"enter {day}", 1, " (kept|overload|dead|-)")
+        self.hold((answer == 0) == (verdict in VERDICTS), "the answer and the verdict do not go together")
+        self.hold_standing(answer != (0 if self.stands(day) else DAY_STANDING), day)
+        if answer != 0:
+            detail = details(self.period, len(self.samples), self.slots).get(answer)
+            self.ledger.refused("enter", day, refusal(answer, detail))
+            return
+        place = next((k for k, value in enumerate(self.samples) if value in RAILS), None)
+        self.hold((place is None) != (verdict == "overload"), f"the first sample at a rail: {'none' if place is None else place}")
+        self.ledger.accepted("enter", day, VERDICTS[verdict], place)
+
+    def withdraw(self, day):
+        (answer,) = self.line(f"withdraw {day}", 1)
+        self.hold_standing((answer == 0) == self.stands(day), day)
+        if answer == 0:
+            self.ledger.accepted("withdraw", day, "withdrawn")
+        else:
+            self.ledger.refused("withdraw", day, refusal(answer))
+
+    def ask(self):
+        answer, *counts = self.line("response", 5)
+        tally = self.ledger.tally()
+        self.hold(counts == list(tally.values()), f"the lines before it count {said(tally)}")
+        self.hold(answer == (0 if tally["standing"] else NOTHING_STANDING), f"{tally['standing']} days stand")
+        if answer == 0:
+            for k in range(self.period):
+                self.line(str(k), 2)
+        self.responses, self.counted = self.responses + 1, len(self.ledger.notes)
+
+    # ---- the log
+
+    def allowed(self):
+        """The kinds that may stand here."""
+        if self.period is None:
+            return (START,)
+        if self.day is None:
+            return (OPEN, WITHDRAW, ASK)
+        return (ENTER,) if len(self.samples) == self.period else (SAMPLE, ENTER)
+
+    def bad(self):
+        (offset,) = self.line("bad", 1)
+        self.hold(offset == self.at, f"the log is bad at byte {self.at}")
+        self.stopped = f"the log is bad at byte {self.at} of {len(self.log)}; what follows was not read"
+        if self.day is not None:
+            self.ledger.failed("enter", self.day, f"opened and not entered: the log is bad at byte {self.at}")
+
+    def read(self):
+        """Reads both to their ends."""
+        while self.at < len(self.log) and not self.stopped:
+            kind, record = self.log[self.at], decode(self.log, self.at)
+            if kind not in self.allowed() or record is None:
+                self.bad()
+            else:
+                self.takes[kind](*record[0])
+                self.at = record[1]
+        if not self.stopped and (self.day is not None or not self.log):
+            self.bad()
+        if self.taken < len(self.lines):
+            raise Fault(f"line {self.taken + 1}, `{self.lines[self.taken]}`: the log has no record for it")
+
+    # ---- the table
+
+    def table(self):
+        """The table's lines, and how much of it the response lines counted."""
+        missing = self.ledger.not_in_mean([day for day in self.ledger.states if self.stands(day)])
+        there = {day: words for day, words in self.ledger.nights().items() if day not in missing}
+        for title, nights in (("not in the mean", missing), ("in the mean", there)):
+            yield f"{title}: {len(nights)}"
+            yield from (f"  day {day:5}  {words}" for day, words in nights.items())
+        yield f"{said(self.ledger.tally())}; response lines that agree: {self.responses}"
+        if self.counted < len(self.ledger.notes):
+            yield f"calls after the last of these lines, which none counts: {len(self.ledger.notes) - self.counted}"
+        if self.stopped:
+            yield self.stopped
+
+
+def said(tally):
+    return ", ".join(f"{state} {tally[state]}" for state in STATES[1:])
+
+
+def printed(data):
+    """The lines of a file, each of which ends."""
+    *lines, rest = data.decode("ascii", "replace").split("\n")
+    if rest:
+        raise Fault(f"line {len(lines) + 1}, `{rest}`, is cut")
+    return lines
+
+
+def main(words):
+    if len(words) != 2:
+        print("usage: nights.py LOG LINES", file=sys.stderr)
+        return 2
+    try:
+        log, lines = (pathlib.Path(word).read_bytes() for word in words)
+        reader = Reader(log, printed(lines))
+        reader.read()
+    except (Fault, OSError) as fault:
+        print(f"nights: {fault}", file=sys.stderr)
+        return 1
+    print("\n".join(reader.table()))
+    return 0
+
+
+if __name__ == "__main__":
+    sys.exit(main(sys.argv[1:]))

@@ -1,0 +1,159 @@
+"""Tries nights.py on the examples, on a year that has more good nights than slots, on random logs and on lines that are not the log's; `door/run`
+builds the second program, whose lines these are, before."""
+import pathlib
+import subprocess
+import sys
+import tempfile
+import unittest
+
+here = pathlib.Path(__file__).resolve().parent
+root = here.parent
+sys.path[:0] = [str(here), str(root / "logs")]
+import make
+import nights
+
+SECOND = root / "second/target/release/second"
+EXAMPLES = sorted((root / "examples").glob("*.log"))
+
+
+def answered(log):
+    return subprocess.run([SECOND, "answer"], input=log, capture_output=True, check=True).stdout
+
+
+def table(log, lines):
+    reader = nights.Reader(log, nights.printed(lines))
+    reader.read()
+    return list(reader.table())
+
+
+class Tables(unittest.TestCase):
+    def test_the_year(self):
+        words = [str(root / "examples" / name) for name in ("year.log", "year.lines")]
+        done = subprocess.run([sys.executable, str(here / "nights.py"), *words], capture_output=True, text=True)
+        self.assertEqual((done.returncode, done.stderr), (0, ""))
+        self.assertEqual(
+            done.stdout.split("\n"),
+            [
+                "not in the mean: 6",
+                "  day     1  withdrawn; then withdrawal refused 13: day not standing",
+                "  day    15  dead",
+                "  day    29  withdrawn",
+                "  day    36  refused 12: verdict kept and C days stand (C is 3)",
+                "  day    43  dead",
+                "  day   367  refused 10: day not 1 to 366",
+                "in the mean: 3",
+                "  day     8  standing; then refused 11: day already standing",
+                "  day    22  standing",
+                "  day   366  standing",
+                "standing 3, overloaded 0, dead 2, withdrawn 2; response lines that agree: 3",
+                "",
+            ],
+        )
+
+    def test_every_example(self):
+        ends = {path.stem: table(path.read_bytes(), path.with_suffix(".lines").read_bytes())[-1] for path in EXAMPLES}
+        self.assertEqual(
+            ends,
+            {
+                "edges": "the log is bad at byte 372 of 376; what follows was not read",
+                "order-1": "the start was refused 1: order below 2 or above 16; no night was read",
+                "order-10": "the start was refused 17: the program only: order above 9 or slots above 8; no night was read",
+                "order-17": "the start was refused 1: order below 2 or above 16; no night was read",
+                "paper": "standing 0, overloaded 0, dead 1, withdrawn 1; response lines that agree: 2",
+                "year": "standing 3, overloaded 0, dead 2, withdrawn 2; response lines that agree: 3",
+            },
+        )
+
+    def test_300_good_nights_in_8_slots(self):
+        night = "samples -1 -3 -1 3 3 -3 1\nenter\n"
+        log = make.log_from_text("start 3 3 8\n" + "".join(f"day {day}\n{night}" for day in range(1, 301)) + "ask\n")
+        lines = table(log, answered(log))
+        full = "refused 12: verdict kept and C days stand (C is 8)"
+        self.assertEqual(lines[:293], ["not in the mean: 292"] + [f"  day {day:5}  {full}" for day in range(9, 301)])
+        self.assertEqual(lines[293:302], ["in the mean: 8"] + [f"  day {day:5}  standing" for day in range(1, 9)])
+        self.assertEqual(lines[302:], ["standing 8, overloaded 0, dead 0, withdrawn 0; response lines that agree: 1"])
+
+    def test_a_night_that_is_never_entered(self):
+        log = make.log_from_text("start 3 3 1\nday 9\nsamples 1 2\n")
+        self.assertEqual(table(log, answered(log))[1], f"  day     9  opened and not entered: the log is bad at byte {len(log)}")
+
+    def test_random_logs_name_each_day_once(self):
+        stopped, whole = 0, 0
+        with tempfile.TemporaryDirectory() as room:
+            subprocess.run([SECOND, "make", "1", "300", room], check=True)
+            for path in sorted(pathlib.Path(room).iterdir()):
+                log = path.read_bytes()
+                lines = answered(log)
+                reader = nights.Reader(log, nights.printed(lines))
+                reader.read()
+                named = {int(words[1]) for words in map(bytes.split, lines.splitlines()) if words[0] in (b"enter", b"withdraw")}
+                never_entered = set() if reader.day is None else {reader.day}
+                listed = [int(line.split()[1]) for line in reader.table() if line.startswith("  day ")]
+                self.assertEqual(sorted(listed), sorted(named | never_entered), msg=path.name)
+                stopped, whole = stopped + bool(reader.stopped), whole + (not reader.stopped)
+        self.assertTrue(stopped > 50 and whole > 50, msg=(stopped, whole))
+
+
+class OtherLines(unittest.TestCase):
+    def refuses(self, log, lines):
+        with self.assertRaises(nights.Fault, msg=lines):
+            table(log, lines)
+
+    def each(self):
+        for path in EXAMPLES:
+            yield path.read_bytes(), path.with_suffix(".lines").read_bytes().splitlines(keepends=True)
+
+    def test_a_line_lost_or_doubled(self):
+        for log, lines in self.each():
+            for i in range(len(lines)):
+                self.refuses(log, b"".join(lines[:i] + lines[i + 1 :]))
+                self.refuses(log, b"".join(lines[: i + 1] + lines[i:]))
+            self.refuses(log, b"".join(lines)[:-1])
+
+    def test_a_count_that_is_one_more(self):
+        changed = 0
+        for log, lines in self.each():
+            for i, line in enumerate(lines):
+                words = line.split()
+                for place in range(1, 6 if words[0] == b"response" else 0):
+                    other = [b"%d" % (int(word) + (k == place)) if k else word for k, word in enumerate(words)]
+                    self.refuses(log, b"".join(lines[:i] + [b" ".join(other) + b"\n"] + lines[i + 1 :]))
+                    changed += 1
+        self.assertEqual(changed, 50)
+
+    def test_a_verdict_that_is_another(self):
+        log, lines = (root / "examples/year.log").read_bytes(), (root / "examples/year.lines").read_bytes()
+        for old, new in [(b"1 0 kept", b"1 0 dead"), (b"15 0 dead", b"15 0 kept"), (b"22 0 overload", b"22 0 dead"), (b"36 12 -", b"36 0 kept")]:
+            self.assertEqual(lines.count(b"enter " + old), 1)
+            self.refuses(log, lines.replace(b"enter " + old, b"enter " + new))
+
+    def test_lines_that_cannot_be(self):
+        night, hit, kept = "day 1\nsamples 1 2 3 4 5 6 7\nenter\n", "day 1\nsamples 1 2 3 8388607 5 6 7\nenter\n", "enter 1 0 kept\n"
+        together = "the answer and the verdict do not go together"
+        for text, lines, why in [
+            (night, "enter 1 0 -\n", together),
+            (night, "enter 1 12 kept\n", together),
+            (night, "enter 1 11 -\n", "day 1 does not stand there"),
+            (night + night, kept + kept, "day 1 stands there"),
+            (night + "withdraw 1\n", kept + "withdraw 1 13\n", "day 1 stands there"),
+            ("withdraw 1\n", "withdraw 1 0\n", "day 1 does not stand there"),
+            (night, "enter 1 0 overload\n", "the first sample at a rail: none"),
+            (hit, kept, "the first sample at a rail: 3"),
+            (night + "enter\n", kept + "bad 5\n", "the log is bad at byte 37"),
+            (night, kept + "ask\n", "the log has no record for it"),
+        ]:
+            with self.assertRaisesRegex(nights.Fault, f": {why}$", msg=lines):
+                table(make.log_from_text("start 3 3 2\n" + text), b"start 0\n" + lines.encode())
+
+    def test_it_says_so_and_prints_no_table(self):
+        with tempfile.TemporaryDirectory() as room:
+            lines = pathlib.Path(room) / "lines"
+            lines.write_bytes((root / "examples/year.lines").read_bytes().replace(b"response 0 2 1 2 1", b"response 0 2 0 2 1"))
+            words = [sys.executable, str(here / "nights.py"), str(root / "examples/year.log"), str(lines)]
+            done = subprocess.run(words, capture_output=True, text=True)
+        said = "nights: line 30, `response 0 2 0 2 1`: the lines before it count standing 2, overloaded 1, dead 2, withdrawn 1\n"
+        self.assertEqual((done.returncode, done.stdout, done.stderr), (1, "", said))
+
+
+if __name__ == "__main__":
+    unittest.main()
