@@ -6,6 +6,10 @@ use crate::Verdict;
 use crate::judging::all_equal;
 use crate::judging::first_rail;
 use records::Campaign;
+use records::DEAD;
+use records::LAST_DAY;
+use records::OVERLOADED;
+use records::STANDING;
 use records::filing::file;
 use records::filing::mark;
 use records::reread::holds;
@@ -27,7 +31,7 @@ fn enter_refusal(c: Campaign, store: &[i32], sums: &[i64], d: u32, y: &[i32]) ->
     if !holds(c, store, sums) {
         return 15;
     }
-    if outside(d, 366) {
+    if outside(d, LAST_DAY) {
         return 10;
     }
     let order = c.order;
@@ -60,13 +64,13 @@ fn keep(c: Campaign, store: &mut [i32], sums: &mut [i64], d: u32, y: &[i32]) -> 
 {
     let slots = c.slots as usize;
     let days = c.days;
-    if days_in(&days, 1) as usize == slots {
+    if days_in(&days, STANDING) as usize == slots {
         return entered(c, d, Verdict::Refused(12));
     }
     let table = c.table;
     let s = find(&table, slots, 0);
     fill_slot(s, y, store, sums);
-    entered(file(c, d, 1, s, d as u16), d, Verdict::Kept(s))
+    entered(file(c, d, STANDING, s, d as u16), d, Verdict::Kept(s))
 }
 
 // The verdict on a recording that has passed the checks.
@@ -75,10 +79,10 @@ fn judge(c: Campaign, store: &mut [i32], sums: &mut [i64], d: u32, y: &[i32]) ->
     ensures { λ r. ⌜ (r, now (store .exit), now (sums .exit)) ≡ judgedOutcome c (now (store .entry)) (now (sums .entry)) d (now (y .entry)) ⌝ }
 {
     match first_rail(y) {
-        Rail::First(p) => entered(mark(c, d, 2), d, Verdict::Overloaded(p)),
+        Rail::First(p) => entered(mark(c, d, OVERLOADED), d, Verdict::Overloaded(p)),
         Rail::Clear => {
             if all_equal(y) {
-                return entered(mark(c, d, 3), d, Verdict::Dead);
+                return entered(mark(c, d, DEAD), d, Verdict::Dead);
             }
             keep(c, store, sums, d, y)
         }

@@ -1,6 +1,7 @@
 // The answer of start.
 use crate::Started;
 use records::Campaign;
+use records::MOST_SLOTS;
 use records::filing::blank;
 use records::slots::clear_samples;
 use records::tables::outside;
@@ -33,7 +34,7 @@ pub fn start_refusal(order: u32, taps: u32, slots: u32, store: usize, sums: usiz
     if refusal != 0 {
         return refusal;
     }
-    if outside(slots, 64) {
+    if outside(slots, MOST_SLOTS) {
         return 9;
     }
     if memory_short(slots as usize, full_period(order) as usize, store, sums) {

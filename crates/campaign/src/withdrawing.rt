@@ -1,6 +1,9 @@
 // The answer of withdraw.
 use crate::Withdrawn;
 use records::Campaign;
+use records::FREE;
+use records::LAST_DAY;
+use records::WITHDRAWN;
 use records::filing::file;
 use records::reread::holds;
 use records::slots::empty_slot;
@@ -19,7 +22,7 @@ fn withdraw_refusal(c: Campaign, store: &[i32], sums: &[i64], d: u32) -> u32
     if !holds(c, store, sums) {
         return 15;
     }
-    if outside(d, 366) {
+    if outside(d, LAST_DAY) {
         return 10;
     }
     if !day_stands(c, d) {
@@ -46,6 +49,6 @@ pub fn withdraw(c: Campaign, store: &mut [i32], sums: &mut [i64], d: u32) -> Wit
     empty_slot(s, full_period(order) as usize, store, sums);
     Withdrawn {
         answer: 0,
-        campaign: file(c, d, 4, s, 0),
+        campaign: file(c, d, WITHDRAWN, s, FREE),
     }
 }

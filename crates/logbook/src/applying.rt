@@ -1,8 +1,8 @@
 // What a record does to the state and the memory lent, and the line that it makes.
 use crate::Applied;
 use crate::Book;
-use crate::MOST_ORDER;
-use crate::MOST_SLOTS;
+use crate::LOG_ORDER;
+use crate::LOG_SLOTS;
 use campaign::Entered;
 use campaign::Started;
 use campaign::Withdrawn;
@@ -12,6 +12,7 @@ use campaign::withdrawing::withdraw;
 use log::Item;
 use log::Phase;
 use records::Campaign;
+use records::MOST_SLOTS;
 use records::filing::blank;
 use records::tables::outside;
 use register::shift::full_period;
@@ -39,7 +40,7 @@ pub fn unbegun() -> Book
 fn too_large(order: u32, slots: u32) -> bool
     ensures { λ r. ⌜ r ≡ tooLarge order slots ⌝ }
 {
-    MOST_ORDER < order || MOST_SLOTS < slots
+    LOG_ORDER < order || LOG_SLOTS < slots
 }
 
 // The first of 1, 2, 3, 4, 9, 17 that refuses a start, and 0 where none does.
@@ -50,7 +51,7 @@ fn start_refusal(order: u32, taps: u32, slots: u32) -> u32
     if refusal != 0 {
         return refusal;
     }
-    if outside(slots, 64) {
+    if outside(slots, MOST_SLOTS) {
         return 9;
     }
     if too_large(order, slots) {
@@ -63,7 +64,7 @@ fn start_refusal(order: u32, taps: u32, slots: u32) -> u32
 pub fn day_length(order: u32) -> usize
     ensures { λ r. ⌜ r ≡ dayLength order ⌝ }
 {
-    if MOST_ORDER < order {
+    if LOG_ORDER < order {
         return 0;
     }
     full_period(order) as usize

@@ -6,9 +6,9 @@ use records::Campaign;
 use report::Line;
 
 // The largest order and the most slots that the program takes.
-pub const MOST_ORDER: u32 = 9;
+pub const LOG_ORDER: u32 = 9;
 
-pub const MOST_SLOTS: u32 = 8;
+pub const LOG_SLOTS: u32 = 8;
 
 // The state between records, beside the memory lent.
 pub struct Book {

@@ -1,5 +1,9 @@
 // The record's two tables, read from lent memory and written back to it.
 use records::Campaign;
+use records::DAYS;
+use records::FREE;
+use records::SLOTS;
+use records::UNSEEN;
 ghost use mathlib.Core.Path.{_≡_};
 ghost use mathlib.Core.Bool.{_||_};
 ghost use Prim.Native.Nat.{_≤_};
@@ -12,7 +16,7 @@ ghost use Rattle.meter.specs.Doors.{recordOf};
 pub fn tables_short(days: usize, slots: usize) -> bool
     ensures { λ r. ⌜ r ≡ ltb days 366 || ltb slots 64 ⌝ }
 {
-    days < 366 || slots < 64
+    days < DAYS || slots < SLOTS
 }
 
 fn copy_days(from: &[u8], to: &mut [u8])
@@ -42,10 +46,10 @@ pub fn read_record(order: u32, taps: u32, count: u32, days: &[u8], slots: &[u16]
     requires { ⌜ (366 ≤ length (now days)) × (64 ≤ length (now slots)) ⌝ }
     ensures { λ r. ⌜ r ≡ recordOf order taps count (now (days .entry)) (now (slots .entry)) ⌝ }
 {
-    let mut own_days = [0u8; 366];
-    let mut own_slots = [0u16; 64];
-    copy_days(&days[..366], &mut own_days);
-    copy_slots(&slots[..64], &mut own_slots);
+    let mut own_days = [UNSEEN; DAYS];
+    let mut own_slots = [FREE; SLOTS];
+    copy_days(&days[..DAYS], &mut own_days);
+    copy_slots(&slots[..SLOTS], &mut own_slots);
     Campaign {
         order,
         taps,

@@ -1,5 +1,8 @@
 // The cases of a campaign's answers as numbers.
 use campaign::Verdict;
+use records::DEAD;
+use records::OVERLOADED;
+use records::STANDING;
 use trend::Counts;
 use trend::Summary;
 ghost use mathlib.Core.Path.{_≡_};
@@ -13,17 +16,17 @@ pub fn write_verdict(verdict: Verdict, state: &mut u32, value: &mut usize) -> u3
 {
     match verdict {
         Verdict::Kept(s) => {
-            *state = 1;
+            *state = STANDING as u32;
             *value = s;
             0
         }
         Verdict::Overloaded(p) => {
-            *state = 2;
+            *state = OVERLOADED as u32;
             *value = p;
             0
         }
         Verdict::Dead => {
-            *state = 3;
+            *state = DEAD as u32;
             *value = 0;
             0
         }

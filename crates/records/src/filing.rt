@@ -1,5 +1,9 @@
 // The record of no days, with a day in another state, and with a slot given to it or taken from it.
 use crate::Campaign;
+use crate::DAYS;
+use crate::FREE;
+use crate::SLOTS;
+use crate::UNSEEN;
 ghost use mathlib.Core.Path.{_≡_};
 ghost use Prim.Native.Nat.{_≤_, _<_};
 ghost use Rattle.records.specs.Record.{fresh, marked, filed};
@@ -8,8 +12,8 @@ ghost use Rattle.records.specs.Record.{fresh, marked, filed};
 pub fn blank(order: u32, taps: u32, slots: u32) -> Campaign
     ensures { λ r. ⌜ r ≡ fresh order taps slots ⌝ }
 {
-    let days = [0u8; 366];
-    let table = [0u16; 64];
+    let days = [UNSEEN; DAYS];
+    let table = [FREE; SLOTS];
     Campaign {
         order,
         taps,

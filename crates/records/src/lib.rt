@@ -5,11 +5,34 @@ pub mod slots;
 mod stored;
 pub mod tables;
 
-// A day's state is 0 unseen, 1 standing, 2 overloaded, 3 dead, 4 withdrawn; a slot holds its day, or 0 where it is free.
+// A year's days, and the most slots that a campaign has.
+pub const DAYS: usize = 366;
+
+pub const SLOTS: usize = 64;
+
+// The same as the largest numbers that a caller may hand in.
+pub const LAST_DAY: u32 = 366;
+
+pub const MOST_SLOTS: u32 = 64;
+
+// A day's states.
+pub const UNSEEN: u8 = 0;
+
+pub const STANDING: u8 = 1;
+
+pub const OVERLOADED: u8 = 2;
+
+pub const DEAD: u8 = 3;
+
+pub const WITHDRAWN: u8 = 4;
+
+// What a slot holds in a day's place where it is free.
+pub const FREE: u16 = 0;
+
 pub struct Campaign {
     pub order: u32,
     pub taps: u32,
     pub slots: u32,
-    pub days: [u8; 366],
-    pub table: [u16; 64],
+    pub days: [u8; DAYS],
+    pub table: [u16; SLOTS],
 }

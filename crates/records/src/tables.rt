@@ -1,4 +1,9 @@
 // The days' states and the slots' days, as the record has them.
+use crate::DAYS;
+use crate::FREE;
+use crate::SLOTS;
+use crate::STANDING;
+use crate::WITHDRAWN;
 ghost use mathlib.Core.Path.{_≡_};
 ghost use mathlib.Core.Bool.{cond, not, _&&_, _||_};
 ghost use Prim.Native.Nat.{_+_, _-_, _≤_};
@@ -20,7 +25,7 @@ pub fn day_stands(c: crate::Campaign, d: u32) -> bool
     ensures { λ r. ⌜ r ≡ stands c d ⌝ }
 {
     let days = c.days;
-    days[d as usize - 1] == 1
+    days[d as usize - 1] == STANDING
 }
 
 // Whether every day's state is one of the five.
@@ -29,8 +34,8 @@ pub fn states_hold(days: &[u8]) -> bool
     ensures { λ r. ⌜ r ≡ every 366 (λ i. leb (getD (now (days .entry)) i 0) 4) ⌝ }
 {
     let mut i = 0;
-    while i < 366 {
-        if days[i] > 4 {
+    while i < DAYS {
+        if days[i] > WITHDRAWN {
             return false;
         }
         i += 1;
@@ -42,7 +47,7 @@ pub fn states_hold(days: &[u8]) -> bool
 fn given_or_free(s: usize, slots: usize, day: u16) -> bool
     ensures { λ r. ⌜ r ≡ ltb s slots || eqb day 0 ⌝ }
 {
-    s < slots || day == 0
+    s < slots || day == FREE
 }
 
 // Whether every slot past those given out is free.
@@ -51,7 +56,7 @@ pub fn past_free(table: &[u16], slots: usize) -> bool
     ensures { λ r. ⌜ r ≡ every 64 (λ s. ltb s slots || eqb (getD (now (table .entry)) s 0) 0) ⌝ }
 {
     let mut s = 0;
-    while s < 64 {
+    while s < SLOTS {
         if !given_or_free(s, slots, table[s]) {
             return false;
         }
@@ -65,7 +70,7 @@ fn free_or_stands(days: &[u8], day: u16) -> bool
     requires { ⌜ length (now days) ≡ 366 ⌝ }
     ensures { λ r. ⌜ r ≡ eqb day 0 || (leb day 366 && eqb (getD (now (days .entry)) (day - 1) 0) 1) ⌝ }
 {
-    day == 0 || (day <= 366 && days[day as usize - 1] == 1)
+    day == FREE || (day as usize <= DAYS && days[day as usize - 1] == STANDING)
 }
 
 // Whether every used slot names a standing day.
@@ -113,7 +118,7 @@ fn idle_or_once(table: &[u16], slots: usize, state: u8, day: u16) -> bool
     requires { ⌜ slots ≤ 64 ⌝ }
     ensures { λ r. ⌜ r ≡ not (eqb state 1) || eqb (many slots (λ s. eqb (getD (now (table .entry)) s 0) day)) 1 ⌝ }
 {
-    state != 1 || slots_of(table, slots, day) == 1
+    state != STANDING || slots_of(table, slots, day) == 1
 }
 
 // Whether every standing day has exactly one slot.
@@ -124,7 +129,7 @@ pub fn one_slot(days: &[u8], table: &[u16], slots: usize) -> bool
     ensures { λ r. ⌜ r ≡ every 366 (λ i. not (eqb (getD (now (days .entry)) i 0) 1) || eqb (many slots (λ s. eqb (getD (now (table .entry)) s 0) (i + 1))) 1) ⌝ }
 {
     let mut i = 0;
-    while i < 366 {
+    while i < DAYS {
         if !idle_or_once(table, slots, days[i], (i + 1) as u16) {
             return false;
         }
@@ -156,7 +161,7 @@ pub fn days_in(days: &[u8], q: u8) -> u32
 {
     let mut n = 0u32;
     let mut i = 0;
-    while i < 366 {
+    while i < DAYS {
         n += hit(days[i] as u16, q as u16);
         i += 1;
     }
@@ -173,7 +178,7 @@ pub fn filed_holds(c: crate::Campaign) -> bool
     if slots < 1 {
         return false;
     }
-    if slots > 64 {
+    if slots > SLOTS {
         return false;
     }
     if !states_hold(&days) {

@@ -1,6 +1,7 @@
 // The answer of response.
 use crate::rooms::answer_short;
 use records::Campaign;
+use records::STANDING;
 use records::reread::holds;
 use records::tables::days_in;
 use register::shift::full_period;
@@ -38,7 +39,7 @@ fn response_refusal(
         return 6;
     }
     let days = c.days;
-    if days_in(&days, 1) == 0 {
+    if days_in(&days, STANDING) == 0 {
         return 14;
     }
     0
@@ -65,7 +66,7 @@ pub fn response(
     let taps = c.taps;
     let days = c.days;
     let period = full_period(order) as usize;
-    let divisor = (period as u64 + 1) * days_in(&days, 1) as u64;
+    let divisor = (period as u64 + 1) * days_in(&days, STANDING) as u64;
     turn_wide(order, taps, sums, r, room, tags);
     write_means(r, mean, period, divisor);
     0

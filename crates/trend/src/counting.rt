@@ -2,6 +2,11 @@
 use crate::Counts;
 use crate::Tally;
 use records::Campaign;
+use records::DEAD;
+use records::OVERLOADED;
+use records::STANDING;
+use records::UNSEEN;
+use records::WITHDRAWN;
 use records::reread::holds;
 use records::tables::days_in;
 ghost use mathlib.Core.Path.{_≡_};
@@ -13,11 +18,11 @@ fn tally_of(c: Campaign) -> Tally
 {
     let days = c.days;
     Tally {
-        unseen: days_in(&days, 0),
-        standing: days_in(&days, 1),
-        overloaded: days_in(&days, 2),
-        dead: days_in(&days, 3),
-        withdrawn: days_in(&days, 4),
+        unseen: days_in(&days, UNSEEN),
+        standing: days_in(&days, STANDING),
+        overloaded: days_in(&days, OVERLOADED),
+        dead: days_in(&days, DEAD),
+        withdrawn: days_in(&days, WITHDRAWN),
     }
 }
 

@@ -5,6 +5,7 @@ use crate::Summary;
 use crate::sizes::level_of;
 use crate::sizes::measure;
 use records::Campaign;
+use records::STANDING;
 use records::reread::holds;
 use records::tables::days_in;
 use register::shift::full_period;
@@ -68,7 +69,7 @@ pub fn summary(
     let order = c.order;
     let taps = c.taps;
     let days = c.days;
-    let n = days_in(&days, 1);
+    let n = days_in(&days, STANDING);
     if n == 0 {
         return Summary::Nothing;
     }

@@ -6,11 +6,20 @@ use Rattle.meter.proofs.verdicts.write_verdict.Tie as tie
 enum-known-verdict : tie.Need-enum-known-verdict
 enum-known-verdict c = search needs
 
+cast-state : tie.Need-cast-state
+cast-state c = search needs
+
 enum-known-verdict-2 : tie.Need-enum-known-verdict-2
 enum-known-verdict-2 c = search needs
 
+cast-state-2 : tie.Need-cast-state-2
+cast-state-2 c = search needs
+
 enum-told : tie.Need-enum-told
 enum-told c = search needs
+
+cast-state-3 : tie.Need-cast-state-3
+cast-state-3 c = search needs
 
 enum-known-verdict-3 : tie.Need-enum-known-verdict-3
 enum-known-verdict-3 c = search needs
@@ -32,8 +41,11 @@ write-verdict-spec =
     tie.close
     (tie.spec
     enum-known-verdict
+    cast-state
     enum-known-verdict-2
+    cast-state-2
     enum-told
+    cast-state-3
     enum-known-verdict-3
     returns
     returns-2
