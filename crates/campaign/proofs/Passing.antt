@@ -12,6 +12,7 @@ use lib.IntN.{ℤ, pos, natAbs}
 use lib.ListN.{length}
 use Rattle.sums.specs.Lists.{at, many}
 use Rattle.sums.specs.Refusals.{first}
+use Rattle.sums.proofs.Everywhere.{many-none}
 use Rattle.sums.proofs.First.{passes, accepts, or-false}
 use Rattle.sums.proofs.Seek.{First, seek-first}
 use Rattle.sums.proofs.Sum.{sum-ext, sum-one}
@@ -22,7 +23,7 @@ use Rattle.register.proofs.Word.{small}
 use Rattle.records.specs.Record.{standing, state, daysIn, slot, free}
 use Rattle.records.specs.declared.Campaign.{Campaign}
 use Rattle.records.proofs.Holding.{Filed, Together, not-apart}
-use Rattle.records.proofs.Refiling.{Day, many-none}
+use Rattle.records.proofs.Refiling.{Day}
 use Rattle.records.proofs.Tallying.{used-standing}
 use Rattle.records.proofs.Totals.{sum-small}
 use Rattle.campaign.specs.Calls.{dayOut, startChecks, enterChecks, withdrawChecks, lowestFree, slotOfDay}

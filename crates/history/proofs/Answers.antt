@@ -10,7 +10,7 @@ use lib.IntN.{ℤ}
 use lib.ListN.{length}
 use Rattle.sums.specs.Lists.{table, put}
 use Rattle.sums.specs.Refusals.{first, outcome}
-use Rattle.sums.proofs.First.{accepts}
+use Rattle.sums.proofs.First.{accepts, outcome-cases}
 use Rattle.register.specs.Register.{P}
 use Rattle.response.specs.Calls.{clearedWide, clearedTags}
 use Rattle.records.specs.Record.{standing, overloaded, dead, daysIn, together, fresh, marked}
@@ -26,7 +26,6 @@ use Rattle.trend.specs.declared.Counts.{Counts}
 use Rattle.trend.specs.declared.Counts.the-variants as counted
 use Rattle.trend.specs.declared.Summary.{Summary}
 use Rattle.trend.specs.declared.Summary.the-variants as summed
-use Rattle.history.proofs.Steps.{outcome-cases}
 
 -- a list of checks that has not the number n, nor 0
 abbrev pub lacks : ℕ → List (ℕ × Bool) → Bool

@@ -13,7 +13,7 @@ use lib.IntN.{ℤ, pos}
 use lib.ListN.{length}
 use Rattle.sums.specs.Lists.{at, many}
 use Rattle.sums.specs.Refusals.{first, answered}
-use Rattle.sums.proofs.First.{refused-first, passed-first, accepts}
+use Rattle.sums.proofs.First.{refused-first, passed-first, accepts, outcome-cases}
 use Rattle.sums.proofs.Sum.{sum-ext, total-changed}
 use Rattle.register.specs.Register.{P}
 use Rattle.response.specs.Calls.{lengthOff, someOut}
@@ -29,7 +29,7 @@ use Rattle.records.proofs.Tallying.{standing-most}
 use Rattle.records.proofs.Refiling.{Day, day}
 use Rattle.history.proofs.History.{SaysRun, says, if-alike}
 use Rattle.history.proofs.UnderWay.{stays-under-way, same-campaign}
-use Rattle.history.proofs.Steps.{outcome-cases, Entering, entering}
+use Rattle.history.proofs.Steps.{Entering, entering}
 use Rattle.history.proofs.Steps as steps
 use Rattle.history.proofs.Undone.{Undone, undone, withdraw-accepted}
 use Rattle.history.proofs.EveryRun.{sums-are}

@@ -12,7 +12,7 @@ use lib.Dec.{eqb}
 use lib.IntN.{ℤ, pos, _*ℤ_, *ℤ-zero}
 use Rattle.sums.specs.Sum.{sum}
 use Rattle.sums.specs.Lists.{at, many}
-use Rattle.sums.proofs.Everywhere.{many-ext}
+use Rattle.sums.proofs.Everywhere.{many-ext, many-some}
 use Rattle.sums.proofs.Sum.{sum-ext, sum-scale}
 use Rattle.sums.proofs.Tables.{at-put}
 use Rattle.register.specs.Register.{P, wave, Accepted}
@@ -28,7 +28,7 @@ use Rattle.trend.specs.declared.Counts.the-variants.{Counted}
 use Rattle.trend.proofs.Bounds.{counts-total}
 use Rattle.records.proofs.Holding.{holds-together}
 use Rattle.records.proofs.Tallying.{slots-as-days}
-use Rattle.records.proofs.Refiling.{Day, day, many-some}
+use Rattle.records.proofs.Refiling.{Day, day}
 use Rattle.history.proofs.History.{SaysRun, says}
 use Rattle.history.proofs.Answers.{never-fifteen, RoomFor, answers}
 

@@ -3,7 +3,7 @@
 use mathlib.Core.Path.{_≡_, refl, sym, ap, subst, _∙_}
 use mathlib.Core.Bool.{Bool, true, false, cond}
 use mathlib.Core.List.{List, [], _∷_}
-use Prim.Native.Nat.{ℕ, zero, suc, _*_, _≤_, _<_}
+use Prim.Native.Nat.{ℕ, _*_, _≤_, _<_}
 use native.Mathlib.Omega.{arith}
 use borrow.Author.Tests.{lt-ltb, ltb-false, eqb-true, eqb-false, not-false}
 use lib.Dec.{T, eqb, ltb}
@@ -11,9 +11,9 @@ use lib.IntN.{ℤ, pos, negsuc, _+ℤ_, _-ℤ_}
 use lib.ListN.{length}
 use lib.Signed.{ltZ}
 use Rattle.sums.specs.Lists.{at, table, put, putAt}
-use Rattle.sums.specs.Refusals.{first, answered, outcome}
+use Rattle.sums.specs.Refusals.{outcome}
 use Rattle.sums.proofs.Everywhere.{both-true}
-use Rattle.sums.proofs.First.{numbered, passes, accepts, Passed, or-false}
+use Rattle.sums.proofs.First.{outcome-cases, accepts, or-false}
 use Rattle.sums.proofs.Seek.{seek-first}
 use Rattle.sums.proofs.Somewhere.{none-of}
 use Rattle.register.specs.Register.{P}
@@ -30,16 +30,6 @@ use Rattle.campaign.proofs.Passing.{Begins, begins, in-day, lowest-free, slot-o
 use Rattle.records.proofs.Holding.{Filed, holds-together}
 use Rattle.records.proofs.Refiling.{Day}
 use Rattle.records.proofs.Tests.{eqZ-same}
-
--- ---- outcomes by cases
-
-pub outcome-cases : {A : Type 0} (checks : List (ℕ × Bool)) → T (numbered checks) → (refused : ℕ → A) (accepted : A) (Q : A → Type 0)
-    → ((n : ℕ) → (n ≡ 0 → ⊥) → first checks ≡ n → Q (refused n)) → (Passed checks → Q accepted) → Q (outcome checks refused accepted)
-outcome-cases checks t refused accepted Q r a = go (first checks) refl
-  where
-    go : (n : ℕ) → first checks ≡ n → Q (answered n refused accepted)
-    go zero e = a (passes checks t e)
-    go (suc n) e = r (suc n) (λ z. omega arith) e
 
 -- ---- a recording with no sample at a rail
 

@@ -12,7 +12,7 @@ use lib.ListN.{length, set, take, length-replicate}
 use lib.Pow.{pow-mono}
 use Rattle.sums.specs.Lists.{table, put}
 use Rattle.sums.specs.Refusals.{first, answered}
-use Rattle.sums.proofs.First.{passes, or-false}
+use Rattle.sums.proofs.First.{passes, or-false, outcome-cases}
 use Rattle.sums.proofs.Tables.{length-put, length-table}
 use Rattle.register.specs.Register.{P}
 use Rattle.records.specs.Record.{fresh}
@@ -23,7 +23,6 @@ use Rattle.history.specs.Run.{World, Call, start, enter, withdraw, counts, resp
 use Rattle.history.specs.Run as run-of
 use Rattle.history.proofs.UnderWay.{stays-under-way, same-campaign, started, started-campaign}
 use Rattle.history.proofs.History.{says}
-use Rattle.history.proofs.Steps.{outcome-cases}
 use Rattle.history.proofs.Answers.{RoomFor, responded}
 use Rattle.log.specs.declared.Phase.{Phase}
 use Rattle.log.specs.declared.Phase.the-variants as phase

@@ -10,6 +10,7 @@ use lib.Dec.{eqb, ltb}
 use lib.IntN.{ℤ, pos, _*ℤ_}
 use lib.ListN.{length, take, length-replicate}
 use lib.Pow.{pow-mono}
+use Rattle.sums.proofs.First.{outcome-cases}
 use Rattle.sums.specs.Lists.{at}
 use Rattle.sums.specs.Refusals.{first, answered, outcome}
 use Rattle.register.specs.Register.{P, wave}
@@ -24,7 +25,6 @@ use Rattle.campaign.specs.declared.Verdict.the-variants as verdict
 use Rattle.trend.specs.Calls.{responseChecks, countsOutcome, responseOutcome}
 use Rattle.trend.specs.declared.Tally.{Tally}
 use Rattle.history.specs.Run.{World, Call, enter, withdraw, response, answer, begun, made, heard}
-use Rattle.history.proofs.Steps.{outcome-cases}
 use Rattle.history.proofs.Answers.{not-first, RoomFor, responded}
 use Rattle.history.proofs.EveryRun as every
 use Rattle.log.specs.declared.Phase.{Phase}

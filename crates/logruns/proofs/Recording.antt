@@ -11,11 +11,11 @@ use lib.IntN.{ℤ, pos}
 use lib.ListN.{length, set, take, length-set, length-replicate}
 use lib.Pow.{pow-mono}
 use lib.Seq.{take-suc-set}
+use Rattle.sums.proofs.First.{outcome-cases}
 use Rattle.sums.specs.Refusals.{answered}
 use Rattle.register.specs.Register.{P}
 use Rattle.records.specs.declared.Campaign.{Campaign}
 use Rattle.campaign.specs.Calls.{startOutcome}
-use Rattle.history.proofs.Steps.{outcome-cases}
 use Rattle.log.specs.declared.Phase.{Phase}
 use Rattle.log.specs.declared.Phase.the-variants as phase
 use Rattle.log.specs.declared.Item.{Item}

@@ -11,13 +11,13 @@ use lib.Dec.{eqb, ltb, leb}
 use lib.IntN.{ℤ, pos}
 use lib.ListN.{length}
 use Rattle.sums.specs.Lists.{at, every, many}
-use Rattle.sums.proofs.Everywhere.{and-true, both-true, every-at, every-all}
+use Rattle.sums.proofs.Everywhere.{and-true, both-true, every-at, every-all, or-rest, or-left, or-right}
 use Rattle.register.specs.Register.{P, Accepted}
 use Rattle.register.specs.Calls.{tapsAnswer}
 use Rattle.register.proofs.Judged.{accepted-exactly}
 use Rattle.records.specs.Record.{standing, withdrawn, state, stands, slot, free, sample, usedTotal, inside, eqZ, tapsHold, slotsHold, statesHold, pastFree, roomHolds, slotsStand, oneSlot, usedInside, freeZero, sumsHold, together, apart}
 use Rattle.records.specs.declared.Campaign.{Campaign}
-use Rattle.records.proofs.Tests.{eqZ-same, eqZ-is, or-right, or-left-true, or-right-true}
+use Rattle.records.proofs.Tests.{eqZ-same, eqZ-is}
 
 -- the record alone: its slots and its days
 pub record Filed (c : Campaign) : Type 0 where
@@ -55,13 +55,13 @@ module _ (c : Campaign) where
         least = leb-true 1 (c .slots) (range .0);
         most = leb-true (c .slots) 64 (range .1);
         states = λ i l. leb-true (state c (i + 1)) withdrawn (every-at 366 _ (k1 .1) i l);
-        past = λ s l p. eqb-true (slot c s) 0 (or-right (ltb s (c .slots)) (free c s) (every-at 64 _ (k2 .1) s l) (le-ltb s (c .slots) p));
+        past = λ s l p. eqb-true (slot c s) 0 (or-rest (ltb s (c .slots)) (free c s) (every-at 64 _ (k2 .1) s l) (le-ltb s (c .slots) p));
         named = λ s l u.
-            let two = and-true (leb (slot c s) 366) (stands c (slot c s)) (or-right (free c s) _ (every-at (c .slots) _ (k3 .1) s l) (ne-eqb (slot c s) 0 u)) in
+            let two = and-true (leb (slot c s) 366) (stands c (slot c s)) (or-rest (free c s) _ (every-at (c .slots) _ (k3 .1) s l) (ne-eqb (slot c s) 0 u)) in
             (leb-true (slot c s) 366 (two .0), eqb-true (state c (slot c s)) standing (two .1));
         one = λ i l q.
             eqb-true (many (c .slots) (λ s. eqb (slot c s) (i + 1))) 1
-            (or-right (not (stands c (i + 1))) _ (every-at 366 _ (k4 .1) i l) (ap not (eq-eqb (state c (i + 1)) standing q)));
+            (or-rest (not (stands c (i + 1))) _ (every-at 366 _ (k4 .1) i l) (ap not (eq-eqb (state c (i + 1)) standing q)));
       }
 
 module _ (c : Campaign) (store sums : List ℤ) where
@@ -92,10 +92,10 @@ module _ (c : Campaign) (store sums : List ℤ) where
         filed = filed-by c (k .0) (k .1);
         store-long = leb-true (c .slots * P (c .order)) (length store) (room .0);
         sums-long = leb-true (P (c .order)) (length sums) (room .1);
-        used = λ s l u j i. every-at (P (c .order)) _ (or-right (free c s) _ (every-at (c .slots) _ (k .3) s l) (ne-eqb (slot c s) 0 u)) j i;
+        used = λ s l u j i. every-at (P (c .order)) _ (or-rest (free c s) _ (every-at (c .slots) _ (k .3) s l) (ne-eqb (slot c s) 0 u)) j i;
         zeros = λ s l f j i.
             eqZ-is (sample c store s j) (pos 0)
-            (every-at (P (c .order)) _ (or-right (not (free c s)) _ (every-at (c .slots) _ (k .4) s l) (ap not (eq-eqb (slot c s) 0 f))) j i);
+            (every-at (P (c .order)) _ (or-rest (not (free c s)) _ (every-at (c .slots) _ (k .4) s l) (ap not (eq-eqb (slot c s) 0 f))) j i);
         total = λ j i. eqZ-is (at sums j) (usedTotal c store j) (every-at (P (c .order)) _ (k .5) j i);
       }
 
@@ -125,34 +125,34 @@ module _ (c : Campaign) (store sums : List ℤ) where
     where
       past : (s : ℕ) → s < 64 → ltb s (c .slots) || free c s ≡ true
       past s l = elim (decLt s (c .slots)) [
-        | yes h ↦ or-left-true (ltb s (c .slots)) (free c s) (lt-ltb s (c .slots) h)
-        | no h ↦ or-right-true (ltb s (c .slots)) (free c s) (eq-eqb (slot c s) 0 (t .filed .past s l (omega arith)))
+        | yes h ↦ or-left (ltb s (c .slots)) (free c s) (lt-ltb s (c .slots) h)
+        | no h ↦ or-right (ltb s (c .slots)) (free c s) (eq-eqb (slot c s) 0 (t .filed .past s l (omega arith)))
       ]
 
       named : (s : ℕ) → s < c .slots → free c s || (leb (slot c s) 366 && stands c (slot c s)) ≡ true
       named s l = elim (ℕ-discrete (slot c s) 0) [
-        | yes e ↦ or-left-true (free c s) (leb (slot c s) 366 && stands c (slot c s)) (eq-eqb (slot c s) 0 e)
+        | yes e ↦ or-left (free c s) (leb (slot c s) 366 && stands c (slot c s)) (eq-eqb (slot c s) 0 e)
         | no e ↦ let n = t .filed .named s l e in
-            or-right-true (free c s) (leb (slot c s) 366 && stands c (slot c s))
+            or-right (free c s) (leb (slot c s) 366 && stands c (slot c s))
             (both-true (le-leb (slot c s) 366 (n .0)) (eq-eqb (state c (slot c s)) standing (n .1)))
       ]
 
       one : (i : ℕ) → i < 366 → not (stands c (i + 1)) || eqb (many (c .slots) (λ s. eqb (slot c s) (i + 1))) 1 ≡ true
       one i l = elim (ℕ-discrete (state c (i + 1)) standing) [
-        | yes e ↦ or-right-true (not (stands c (i + 1))) _ (eq-eqb (many (c .slots) (λ s. eqb (slot c s) (i + 1))) 1 (t .filed .one i l e))
-        | no e ↦ or-left-true (not (stands c (i + 1))) _ (ap not (ne-eqb (state c (i + 1)) standing e))
+        | yes e ↦ or-right (not (stands c (i + 1))) _ (eq-eqb (many (c .slots) (λ s. eqb (slot c s) (i + 1))) 1 (t .filed .one i l e))
+        | no e ↦ or-left (not (stands c (i + 1))) _ (ap not (ne-eqb (state c (i + 1)) standing e))
       ]
 
       used : (s : ℕ) → s < c .slots → free c s || every (P (c .order)) (λ j. inside (sample c store s j)) ≡ true
       used s l = elim (ℕ-discrete (slot c s) 0) [
-        | yes e ↦ or-left-true (free c s) _ (eq-eqb (slot c s) 0 e)
-        | no e ↦ or-right-true (free c s) _ (every-all (P (c .order)) _ (λ j k. t .used s l e j k))
+        | yes e ↦ or-left (free c s) _ (eq-eqb (slot c s) 0 e)
+        | no e ↦ or-right (free c s) _ (every-all (P (c .order)) _ (λ j k. t .used s l e j k))
       ]
 
       zeros : (s : ℕ) → s < c .slots → not (free c s) || every (P (c .order)) (λ j. eqZ (sample c store s j) (pos 0)) ≡ true
       zeros s l = elim (ℕ-discrete (slot c s) 0) [
-        | yes e ↦ or-right-true (not (free c s)) _ (every-all (P (c .order)) _ (λ j k. eqZ-same (t .zeros s l e j k)))
-        | no e ↦ or-left-true (not (free c s)) _ (ap not (ne-eqb (slot c s) 0 e))
+        | yes e ↦ or-right (not (free c s)) _ (every-all (P (c .order)) _ (λ j k. eqZ-same (t .zeros s l e j k)))
+        | no e ↦ or-left (not (free c s)) _ (ap not (ne-eqb (slot c s) 0 e))
       ]
 
   pub holds-together : (together c store sums ≡ true) ↔ Together c store sums

@@ -1,17 +1,17 @@
 -- A record in which one day, and perhaps one slot, is changed: what it says of the others stays, and its slots and days still agree.
 -- Assumes nothing.
 use mathlib.Core.Path.{_≡_, refl, sym, ap, subst, _∙_}
-use mathlib.Core.Bool.{Bool, true, false, cond}
-use Prim.Native.Nat.{ℕ, zero, suc, _+_, _-_, _≤_, _<_}
+use mathlib.Core.Bool.{cond}
+use Prim.Native.Nat.{ℕ, _+_, _-_, _≤_, _<_}
 use native.Mathlib.Decide.{ℕ-discrete}
 use native.Mathlib.Omega.{arith}
 use borrow.Author.Tests.{eq-eqb, ne-eqb}
 use lib.Dec.{eqb}
 use lib.ListN.{length, length-set}
 use lib.Seq.{getD-set-same, getD-set-other}
-use Rattle.sums.specs.Sum.{total}
 use Rattle.sums.specs.Lists.{many}
 use Rattle.sums.proofs.Sum.{total-changed}
+use Rattle.sums.proofs.Everywhere.{many-none, many-one}
 use Rattle.records.specs.Record.{standing, withdrawn, state, slot, marked, filed}
 use Rattle.records.specs.declared.Campaign.{Campaign}
 use Rattle.records.proofs.Holding.{Filed}
@@ -92,40 +92,6 @@ marked-filed c z d q r f n a h =
     ]
 
 -- ---- a day that takes a free slot
-
-pub many-none : (n : ℕ) (test : ℕ → Bool) → ((i : ℕ) → i < n → test i ≡ false) → many n test ≡ 0
-unfolding many total
-many-none zero test h = refl
-many-none (suc n) test h = rw (h n (omega arith)) (omega (arith, many-none n test (λ i l. h i (omega arith))))
-
-pub many-some : (n : ℕ) (test : ℕ → Bool) (i : ℕ) → i < n → test i ≡ true → 1 ≤ many n test
-unfolding many total
-many-some zero test i l t = absurd (omega arith)
-many-some (suc n) test i l t = elim (ℕ-discrete i n) [
-  | yes e ↦ last (ap test (sym e) ∙ t)
-  | no e ↦ omega (arith, many-some n test i (omega arith) t)
-]
-  where
-    last : test n ≡ true → 1 ≤ total n (λ i. cond (test i) 1 0) + cond (test n) 1 0
-    last u = rw u (omega arith)
-
--- where it holds once, it holds at one place
-many-one : (n : ℕ) (test : ℕ → Bool) → many n test ≡ 1 → (i j : ℕ) → i < n → j < n → test i ≡ true → test j ≡ true → i ≡ j
-unfolding many total
-many-one zero test h i j a b t u = absurd (omega arith)
-many-one (suc n) test h i j a b t u = elim (ℕ-discrete i n) [
-  | yes e ↦ elim (ℕ-discrete j n) [ yes g ↦ e ∙ sym g | no g ↦ absurd (twice (ap test (sym e) ∙ t) j (omega arith) u) ]
-  | no e ↦ elim (ℕ-discrete j n) [
-    | yes g ↦ absurd (twice (ap test (sym g) ∙ u) i (omega arith) t)
-    | no g ↦ many-one n test (before (many-some n test i (omega arith) t)) i j (omega arith) (omega arith) t u
-  ]
-]
-  where
-    twice : test n ≡ true → (k : ℕ) → k < n → test k ≡ true → ⊥
-    twice v k l w = omega (arith, many-some n test k l w, rw v at h)
-
-    before : 1 ≤ many n test → many n test ≡ 1
-    before l = omega arith
 
 module _ (c : Campaign) (z : Sized c) (d q k t : ℕ) (r : Day d) (f : Filed c) (inside : k < c .slots) where
   k-small : k < 64

@@ -1,10 +1,9 @@
 -- The tests of numbers, and what each tells. Assumes nothing.
-use mathlib.Core.Path.{_≡_, refl, ap, ap₂, subst, _∙_}
-use mathlib.Core.Bool.{Bool, true, false, _||_}
+use mathlib.Core.Path.{_≡_, refl, ap₂, subst, _∙_}
+use mathlib.Core.Bool.{true, false}
 use Prim.Native.Nat.{_+_, _≤_}
 use native.Mathlib.Omega.{arith}
 use borrow.Author.Tests.{le-leb, ltb-true}
-use lib.Dec.{T}
 use lib.IntN.{ℤ, pos, negsuc, natAbs}
 use lib.Signed.{leZ, ltZ}
 use Rattle.sums.proofs.Diff.{up, down, parts, leZ-diff, ints}
@@ -30,18 +29,6 @@ pub eqZ-is : (a b : ℤ) → eqZ a b ≡ true → a ≡ b
 eqZ-is a b h =
     let two = and-true (leZ a b) (leZ b a) h in
     rw (parts a, parts b) (omega (ints, two .0, two .1))
-
--- a test that is either
-pub or-right : (a b : Bool) → a || b ≡ true → a ≡ false → b ≡ true
-or-right true b h e = absurd (subst T e tt)
-or-right false b h e = h
-
-pub or-left-true : (a b : Bool) → a ≡ true → a || b ≡ true
-or-left-true a b e = ap (λ x. x || b) e
-
-pub or-right-true : (a b : Bool) → b ≡ true → a || b ≡ true
-or-right-true true b e = refl
-or-right-true false b e = e
 
 -- the rails are not inside them, their neighbours are
 pub rails-outside : (inside (pos 8388607) ≡ false) × (inside (pos 8388606) ≡ true) × (inside (negsuc 8388607) ≡ false) × (inside (negsuc 8388606) ≡ true)

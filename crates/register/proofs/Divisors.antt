@@ -13,7 +13,7 @@ use lib.Dec.{eqb}
 use lib.Pow.{pow-pos, pow-add, pow-mono}
 use Rattle.sums.specs.Sum.{total}
 use Rattle.sums.specs.Lists.{some}
-use Rattle.sums.proofs.Everywhere.{both-true}
+use Rattle.sums.proofs.Everywhere.{both-true, or-left, or-right}
 use Rattle.sums.proofs.Seek.{First}
 use Rattle.sums.proofs.Somewhere.{some-none, some-at}
 use Rattle.sums.proofs.Sum.{total-ext}
@@ -39,13 +39,6 @@ dot-bits (suc (suc s)) d hs hd = absurd (omega arith)
 and-off : (a b : Bool) → (a ≡ true → b ≡ false) → a && b ≡ false
 and-off true b h = h refl
 and-off false b h = refl
-
-or-first : {a : Bool} (b : Bool) → a ≡ true → a || b ≡ true
-or-first b p = ap (λ x. x || b) p
-
-or-second : (a : Bool) {b : Bool} → b ≡ true → a || b ≡ true
-or-second true p = refl
-or-second false p = p
 
 module _ (N taps : ℕ) (t : Tapped N taps) where
   walk-lt : (m w : ℕ) → w < 2 ^ N → walk N taps m w < 2 ^ N
@@ -217,12 +210,12 @@ module _ (N taps : ℕ) (t : Tapped N taps) where
       small s = omega (arith, most, one-small (P N) (h .it) some-steps (h .divides) (omega (arith, square, pow-pos N)) s)
 
       here : returnsAt N taps (h .it) ≡ true
-      here = both-true (eq-eqb (P N % h .it) 0 (h .divides)) (or-first (prime (h .it) && eqb (tag N taps (P N / h .it)) 1) (both-true (h .over) (eq-eqb (tag N taps (h .it)) 1 (h .home))))
+      here = both-true (eq-eqb (P N % h .it) 0 (h .divides)) (or-left _ (prime (h .it) && eqb (tag N taps (P N / h .it)) 1) (both-true (h .over) (eq-eqb (tag N taps (h .it)) 1 (h .home))))
 
       there : returnsAt N taps (P N / h .it) ≡ true
       there =
           both-true (eq-eqb (P N % (P N / h .it)) 0 (other (P N) (h .it) some-steps (h .divides)))
-          (or-second (prime (P N / (P N / h .it)) && eqb (tag N taps (P N / h .it)) 1) (both-true (h .over) (eq-eqb (tag N taps (P N / (P N / h .it))) 1 (ap (tag N taps) (back (P N) (h .it) some-steps (h .divides)) ∙ h .home))))
+          (or-right (prime (P N / (P N / h .it)) && eqb (tag N taps (P N / h .it)) 1) _ (both-true (h .over) (eq-eqb (tag N taps (P N / (P N / h .it))) 1 (ap (tag N taps) (back (P N) (h .it) some-steps (h .divides)) ∙ h .home))))
 
   -- what is found there is a return before P
   no-divisor : ((k : ℕ) → 0 < k → k < P N → tag N taps k ≡ 1 → ⊥) → returnsEarly N taps ≡ false

@@ -1,7 +1,7 @@
 -- A test that holds at every place, the places at which one holds counted, and a list with another put into it from some place on.
 -- Assumes nothing.
 use mathlib.Core.Path.{_≡_, refl, sym, ap, ap₂, subst, _∙_}
-use mathlib.Core.Bool.{Bool, true, false, cond, _&&_}
+use mathlib.Core.Bool.{Bool, true, false, cond, _&&_, _||_}
 use mathlib.Core.List.{List, _++_}
 use Prim.Native.Nat.{ℕ, zero, suc, _+_, _-_, _≤_, _<_}
 use native.Mathlib.Decide.{ℕ-discrete}
@@ -9,6 +9,7 @@ use native.Mathlib.Omega.{arith}
 use lib.Dec.{T}
 use lib.ListN.{length, getD, take, drop, length-append, length-drop, List·getD-append}
 use lib.Seq.{length-take-le, getD-append-add, getD-drop, getD-take}
+use Rattle.sums.specs.Sum.{total}
 use Rattle.sums.specs.Lists.{every, many, put, putAt}
 use Rattle.sums.proofs.Sum.{total-ext}
 use Rattle.sums.proofs.Tables.{length-put}
@@ -21,6 +22,17 @@ and-true false b h = absurd (subst T (sym h) tt)
 
 pub both-true : {a b : Bool} → a ≡ true → b ≡ true → a && b ≡ true
 both-true p q = ap₂ _&&_ p q
+
+pub or-left : (a b : Bool) → a ≡ true → a || b ≡ true
+or-left a b p = ap (λ x. x || b) p
+
+pub or-right : (a b : Bool) → b ≡ true → a || b ≡ true
+or-right true b p = refl
+or-right false b p = p
+
+pub or-rest : (a b : Bool) → a || b ≡ true → a ≡ false → b ≡ true
+or-rest true b h e = absurd (subst T e tt)
+or-rest false b h e = h
 
 -- ---- every
 
@@ -41,6 +53,40 @@ every-all (suc n) test h = both-true (every-all n test (λ i l. h i (omega arith
 pub many-ext : (n : ℕ) {f g : ℕ → Bool} → ((i : ℕ) → i < n → f i ≡ g i) → many n f ≡ many n g
 unfolding many
 many-ext n h = total-ext n (λ i l. ap (λ b. cond b 1 0) (h i l))
+
+pub many-none : (n : ℕ) (test : ℕ → Bool) → ((i : ℕ) → i < n → test i ≡ false) → many n test ≡ 0
+unfolding many total
+many-none zero test h = refl
+many-none (suc n) test h = rw (h n (omega arith)) (omega (arith, many-none n test (λ i l. h i (omega arith))))
+
+pub many-some : (n : ℕ) (test : ℕ → Bool) (i : ℕ) → i < n → test i ≡ true → 1 ≤ many n test
+unfolding many total
+many-some zero test i l t = absurd (omega arith)
+many-some (suc n) test i l t = elim (ℕ-discrete i n) [
+  | yes e ↦ last (ap test (sym e) ∙ t)
+  | no e ↦ omega (arith, many-some n test i (omega arith) t)
+]
+  where
+    last : test n ≡ true → 1 ≤ total n (λ i. cond (test i) 1 0) + cond (test n) 1 0
+    last u = rw u (omega arith)
+
+-- where it holds once, it holds at one place
+pub many-one : (n : ℕ) (test : ℕ → Bool) → many n test ≡ 1 → (i j : ℕ) → i < n → j < n → test i ≡ true → test j ≡ true → i ≡ j
+unfolding many total
+many-one zero test h i j a b t u = absurd (omega arith)
+many-one (suc n) test h i j a b t u = elim (ℕ-discrete i n) [
+  | yes e ↦ elim (ℕ-discrete j n) [ yes g ↦ e ∙ sym g | no g ↦ absurd (twice (ap test (sym e) ∙ t) j (omega arith) u) ]
+  | no e ↦ elim (ℕ-discrete j n) [
+    | yes g ↦ absurd (twice (ap test (sym g) ∙ u) i (omega arith) t)
+    | no g ↦ many-one n test (before (many-some n test i (omega arith) t)) i j (omega arith) (omega arith) t u
+  ]
+]
+  where
+    twice : test n ≡ true → (k : ℕ) → k < n → test k ≡ true → ⊥
+    twice v k l w = omega (arith, many-some n test k l w, rw v at h)
+
+    before : 1 ≤ many n test → many n test ≡ 1
+    before l = omega arith
 
 -- ---- put from some place on
 

@@ -47,6 +47,16 @@ pub or-false : (a b : Bool) → a || b ≡ false → (a ≡ false) × (b ≡ fal
 or-false false b h = (refl, h)
 or-false true b h = absurd (subst T h tt)
 
+-- ---- what a call comes to, by cases
+
+pub outcome-cases : {A : Type 0} (checks : List (ℕ × Bool)) → T (numbered checks) → (refused : ℕ → A) (accepted : A) (Q : A → Type 0)
+    → ((n : ℕ) → (n ≡ 0 → ⊥) → first checks ≡ n → Q (refused n)) → (Passed checks → Q accepted) → Q (outcome checks refused accepted)
+outcome-cases checks t refused accepted Q r a = go (first checks) refl
+  where
+    go : (n : ℕ) → first checks ≡ n → Q (answered n refused accepted)
+    go zero e = a (passes checks t e)
+    go (suc n) e = r (suc n) (λ z. omega arith) e
+
 -- ---- what a call comes to, by its answer so far
 
 module _ {A : Type 0} (refused : ℕ → A) (accepted : A) where
