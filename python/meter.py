@@ -17,7 +17,7 @@ import subprocess
 import tempfile
 from typing import NamedTuple, Optional
 
-from ledger import STATES, Ledger, details, refusal
+from ledger import STATES, Ledger, details, explain, refusal
 
 DAYS = 366
 SLOTS = 64
