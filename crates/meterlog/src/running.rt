@@ -3,6 +3,7 @@
 // that answer.
 use crate::Failed;
 use crate::Progress;
+use libc::STDERR_FILENO;
 use libc::STDIN_FILENO;
 use libc::STDOUT_FILENO;
 use log::feeding::to_front;
@@ -111,6 +112,17 @@ fn read_more(p: Progress, bytes: &mut [u8], out: &mut [u8]) -> Progress
     next
 }
 
+// A report that is cut must not pass for a whole one.
+fn tell_unwritten(p: Progress) {
+    let failed = p.failed;
+    if let Failed::Writing = failed {
+        io::write_all(
+            STDERR_FILENO,
+            b"meterlog: the report could not be written whole\n",
+        );
+    }
+}
+
 // One turn: its text is written, or, where too few bytes are at hand, more are read.
 fn step(
     p: Progress,
@@ -153,7 +165,9 @@ fn step(
     }
     let length = t.length;
     let wrote = io::write_all(STDOUT_FILENO, &out[..length]);
-    written(p, t, wrote)
+    let next = written(p, t, wrote);
+    tell_unwritten(next);
+    next
 }
 
 // One turn less, and none once the program has stopped.

@@ -113,6 +113,9 @@ write-all-requires c κs = search needs
 written-requires : tie.Need-written-requires
 written-requires c κs = used-fits (c .before .before .before .before .before .before .before .before .before .before .before .before .before)
 
+tell-unwritten-requires : tie.Need-tell-unwritten-requires
+tell-unwritten-requires c κs = search needs
+
 same-length-10 : tie.Need-same-length-10
 same-length-10 c = search needs
 
@@ -142,13 +145,13 @@ same-length-18 c = search needs
 
 returns-2 : tie.Need-returns-2
 returns-2 c =
-    let t = c .before .before .before .before .before .before .before .before .before .before .before .before .before .before in
+    let t = c .before .before .before .before .before .before .before .before .before .before .before .before .before .before .before in
     let a = start t .args in
     let i = start t .pre .0 .0 in
-    rw (c .written .ensures) (
-      written-step (a .p) (a .bytes .now) (t .take-turn .result) _ (a .bytes .now) (c .before .write-all .result) (t .take-turn .ensures .0) (c .before .before .before .if1 .left)
+    rw (c .before .written .ensures) (
+      written-step (a .p) (a .bytes .now) (t .take-turn .result) _ (a .bytes .now) (c .before .before .write-all .result) (t .take-turn .ensures .0) (c .before .before .before .before .if1 .left)
           (hand-passed (a .bytes .now) (a .p .from) (a .p .to) (t .take-turn .result .used) (used-fits t) (i .inside)),
-      provided-inside (c .before .write-all .result) _ _ (record { forth = used-fits t; inside = i .inside }),
+      provided-inside (c .before .before .write-all .result) _ _ (record { forth = used-fits t; inside = i .inside }),
     )
 
 pub step-spec : {M : Type 1} → statement M
@@ -174,6 +177,7 @@ step-spec =
     slice-aggregate-write-all
     write-all-requires
     written-requires
+    tell-unwritten-requires
     same-length-10
     same-length-11
     same-length-12
