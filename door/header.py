@@ -1,6 +1,6 @@
 #!/usr/bin/env python3
 """Holds include/meter.h to the source: each exported function of crates/meter is declared, with the parameters that it has, by type and by name, and
-no other is; and meter_explain has Python's words for every refusal.
+no other is; and meter_explain and the manual's table have Python's words for every refusal.
 
 With a file as its argument it holds that file to them instead."""
 import pathlib
@@ -52,4 +52,8 @@ others = [n for n in in_words.keys() | in_python.keys() if in_words.get(n) != in
 for n in others:
     print(f"wrong: answer {n}\n  python {in_python.get(n)}\n  header {in_words.get(n)}")
 print(f"meter.h: {len(in_python)} answers in words, {len(others)} other than Python's")
-sys.exit(bool(faults or others))
+
+rows = [f"| {number} | `{name}` | {CAUSES[number]} |" for name, number in named.items() if number in CAUSES]
+missing = [row for row in rows if row not in (root / "docs/MANUAL.md").read_text().splitlines()]
+print("\n".join(f"docs/MANUAL.md has no row {row}" for row in missing) or f"docs/MANUAL.md: the {len(rows)} refusals of meter.h")
+sys.exit(bool(faults or others or missing))
