@@ -208,6 +208,7 @@ class Programs(Case):
                 "",
             ],
         )
+        self.assertIn(done.stdout + "```", (here.parent / "docs/MANUAL.md").read_text())
 
 
 if __name__ == "__main__":
