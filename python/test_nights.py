@@ -1,5 +1,5 @@
-"""Tries nights.py on the examples, as the manual and README.md show them too, on a year that has more good nights than slots, on random logs and on lines that are not the log's; `door/run`
-builds the second program, whose lines these are, before."""
+"""Tries nights.py on the examples, as the manual and README.md show them too, on a year that has more good nights than slots, on random logs and on
+lines that are not the log's; `door/run` builds the second program, whose lines these are, before."""
 import pathlib
 import subprocess
 import sys
