@@ -1,4 +1,4 @@
-/* Calls every function of meter.h on document 01's numbers. Prints nothing but what is wrong, and a last line. */
+/* Calls every function of meter.h on document 01's numbers, and asks for its refusals in words. Prints nothing but what is wrong, and a last line. */
 #include "meter.h"
 #include <stdio.h>
 #include <string.h>
@@ -28,6 +28,19 @@ static uint16_t tags[2 * P + 1];
 
 #define RECORD ORDER, TAPS, SLOT_COUNT, days, METER_DAYS + 1, slots, METER_SLOTS + 1, store, SLOT_COUNT * P + 1, sums, P + 1
 #define ROOM room, P + 2, tags, 2 * P + 1
+
+static int says(uint32_t answer, const char *words) {
+    return strcmp(meter_explain(answer), words) == 0;
+}
+
+static void words(void) {
+    EXPECT(says(METER_ACCEPTED, "accepted") && says(18, "unknown") && says(4294967295u, "unknown"));
+    EXPECT(says(meter_taps(17, 3), "order below 2 or above 16") && says(meter_taps(2, 4), "taps not below 2^N"));
+    EXPECT(says(meter_taps(2, 2), "tap 0 clear") && says(meter_taps(2, 1), "register not maximal"));
+    EXPECT(says(METER_BEYOND_THE_PROGRAM, "the program only: order above 9 or slots above 8") && METER_BEYOND_THE_PROGRAM == 17);
+    for (uint32_t n = 0; n < 17; n++)
+        EXPECT(!says(n, "unknown") && !says(n, meter_explain(n + 1)));
+}
 
 static void registers(void) {
     uint32_t taps = 7, o = 0, t = 0, window = 9, count = 9;
@@ -103,6 +116,7 @@ static void campaigns(void) {
 }
 
 int main(void) {
+    words();
     registers();
     recordings();
     campaigns();

@@ -1,12 +1,16 @@
 #!/usr/bin/env python3
-"""Holds include/meter.h to the source: each exported function of crates/meter is declared, with the parameters that it has, by type and by name, and no other is.
+"""Holds include/meter.h to the source: each exported function of crates/meter is declared, with the parameters that it has, by type and by name, and
+no other is; and meter_explain and the manual's table have Python's words for every refusal.
 
-With a file as its argument it holds that file to the source instead."""
+With a file as its argument it holds that file to them instead."""
 import pathlib
 import re
 import sys
 
 root = pathlib.Path(__file__).resolve().parent.parent
+sys.path.insert(0, str(root / "python"))
+from ledger import CAUSES, explain
+
 numbers = {"u8": "uint8_t", "i8": "int8_t", "u16": "uint16_t", "u32": "uint32_t", "i32": "int32_t", "i64": "int64_t", "usize": "size_t", "f64": "double"}
 # C has the record's slot count and a new player's numbers under longer names; a player's own count is lent, so it is not the first of these.
 longer = {"count: u32": "slot_count", "o: &mut u32": "player_order", "t: &mut u32": "player_taps"}
@@ -40,4 +44,16 @@ faults = [name for name in sorted(source.keys() | header.keys()) if source.get(n
 for name in faults:
     print(f"wrong: {name}\n  source {source.get(name)}\n  header {header.get(name)}")
 print(f"meter.h: {len(source)} functions in the source, {len(faults)} declared otherwise")
-sys.exit(bool(faults))
+
+named = {name: int(number) for name, number in re.findall(r"(METER_\w+) = (\d+)", text)}
+in_words = {named.get(name, name): words for name, words in re.findall(r'case (\w+): return "(.*?)";', text)}
+in_python = {number: explain(number) for number in [0, *CAUSES]}
+others = [n for n in in_words.keys() | in_python.keys() if in_words.get(n) != in_python.get(n)]
+for n in others:
+    print(f"wrong: answer {n}\n  python {in_python.get(n)}\n  header {in_words.get(n)}")
+print(f"meter.h: {len(in_python)} answers in words, {len(others)} other than Python's")
+
+rows = [f"| {number} | `{name}` | {CAUSES[number]} |" for name, number in named.items() if number in CAUSES]
+missing = [row for row in rows if row not in (root / "docs/MANUAL.md").read_text().splitlines()]
+print("\n".join(f"docs/MANUAL.md has no row {row}" for row in missing) or f"docs/MANUAL.md: the {len(rows)} refusals of meter.h")
+sys.exit(bool(faults or others or missing))

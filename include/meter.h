@@ -1,6 +1,7 @@
 /* The response meter, from C. Link libmeter.a, which `rt staticlib meter` writes.
  *
- * Each function answers 0, or document 01's refusal number; a refused call leaves all that it was lent as it was.
+ * Each function but meter_explain answers 0 or a refusal's number, and its comment has the numbers in the order of its checks. A refused call leaves
+ * all that it was lent as it was. docs/MANUAL.md explains every call.
  * A slice is a pointer and a length in elements. A pointer is never NULL, is aligned for its element, and what two
  * pointers of one call lend does not overlap, unless both are const. Nothing is kept after the call.
  * P is 2^order - 1. Samples are -8388608 to 8388607. What is lent beyond the lengths named here is never changed.
@@ -19,6 +20,54 @@ enum { METER_DAYS = 366, METER_SLOTS = 64 };
 
 /* A day's state, in the table of days and as the state that a verdict gives. */
 enum { METER_UNSEEN, METER_STANDING, METER_OVERLOADED, METER_DEAD, METER_WITHDRAWN };
+
+/* ---- refusals ---- */
+
+enum {
+    METER_ACCEPTED = 0,
+    METER_ORDER_OUT_OF_RANGE = 1,
+    METER_TAPS_TOO_LARGE = 2,
+    METER_TAP_0_CLEAR = 3,
+    METER_NOT_MAXIMAL = 4,
+    METER_WRONG_LENGTH = 5,
+    METER_ROOM_TOO_SHORT = 6,
+    METER_VALUE_OUT_OF_RANGE = 7,
+    METER_PREDICTED_OUT_OF_RANGE = 8,
+    METER_SLOT_COUNT_OUT_OF_RANGE = 9,
+    METER_DAY_OUT_OF_RANGE = 10,
+    METER_DAY_STANDING = 11,
+    METER_SLOTS_FULL = 12,
+    METER_DAY_NOT_STANDING = 13,
+    METER_NOTHING_STANDING = 14,
+    METER_RECORD_BROKEN = 15,
+    METER_WINDOW_OUT_OF_RANGE = 16,
+    METER_BEYOND_THE_PROGRAM = 17
+};
+
+/* An answer in words. It is made of this header alone: the library has no such function. */
+static inline const char *meter_explain(uint32_t n) {
+    switch (n) {
+    case METER_ACCEPTED: return "accepted";
+    case METER_ORDER_OUT_OF_RANGE: return "order below 2 or above 16";
+    case METER_TAPS_TOO_LARGE: return "taps not below 2^N";
+    case METER_TAP_0_CLEAR: return "tap 0 clear";
+    case METER_NOT_MAXIMAL: return "register not maximal";
+    case METER_WRONG_LENGTH: return "recording or response not exactly P long";
+    case METER_ROOM_TOO_SHORT: return "output or working room too short";
+    case METER_VALUE_OUT_OF_RANGE: return "a value outside the sample range";
+    case METER_PREDICTED_OUT_OF_RANGE: return "a predicted sample outside the sample range";
+    case METER_SLOT_COUNT_OUT_OF_RANGE: return "slot count not 1 to 64";
+    case METER_DAY_OUT_OF_RANGE: return "day not 1 to 366";
+    case METER_DAY_STANDING: return "day already standing";
+    case METER_SLOTS_FULL: return "verdict kept and C days stand";
+    case METER_DAY_NOT_STANDING: return "day not standing";
+    case METER_NOTHING_STANDING: return "nothing standing";
+    case METER_RECORD_BROKEN: return "record does not hold together";
+    case METER_WINDOW_OUT_OF_RANGE: return "player's window zero or not below 2^N";
+    case METER_BEYOND_THE_PROGRAM: return "the program only: order above 9 or slots above 8";
+    default: return "unknown";
+    }
+}
 
 /* ---- the register ---- */
 

@@ -1,4 +1,5 @@
-"""Holds make.py to the examples' logs, and to `second text` on good and bad lines, drawn at random; `door/run` builds the second program before."""
+"""Holds make.py to the examples' logs, and to `second text` on good and bad lines, drawn at random; and the manual's example to its log and lines.
+`door/run` builds the second program before."""
 import pathlib
 import random
 import subprocess
@@ -29,6 +30,13 @@ class Make(unittest.TestCase):
         for text in texts:
             status, log, said = run(sys.executable, str(here / "make.py"), text=text.read_text())
             self.assertEqual((status, log, said), (0, text.with_suffix(".log").read_bytes(), ""), msg=text.name)
+
+    def test_the_manual_has_the_paper_in_hex_with_its_lines(self):
+        block = (root / "docs/MANUAL.md").read_text().partition("```\n01 03")[2].partition("```")[0]
+        rows = ("01 03" + block).splitlines()
+        log, lines = (root / "examples" / name for name in ("paper.log", "paper.lines"))
+        self.assertEqual(bytes.fromhex("".join(row[:17] for row in rows)), log.read_bytes())
+        self.assertEqual([row[45:] for row in rows if row[45:]], lines.read_text().splitlines())
 
     def test_a_bad_line_is_named_and_nothing_written(self):
         status, log, said = run(sys.executable, str(here / "make.py"), text="start 3 3 2\nday 65536\n")

@@ -29,9 +29,14 @@ CAUSES = {
 }
 
 
+def explain(number):
+    """An answer in words, as `meter_explain` of include/meter.h has them."""
+    return "accepted" if number == 0 else CAUSES.get(number, "unknown")
+
+
 def refusal(number, detail=None):
     """A refusal in document 01's words, with the numbers at hand where they say more."""
-    words = f"{number}: {CAUSES.get(number, 'not a number of document 01')}"
+    words = f"{number}: {explain(number)}"
     return f"{words} ({detail})" if detail else words
 
 

@@ -5,7 +5,7 @@
 
 The shared object is linked from that archive at the first import, by `cc`; METER_LIBRARY names another. Samples are whole numbers
 from -8388608 to 8388607; any sequence of them will do. A refused call raises `Refused`, with document 01's number, and changes nothing;
-a `Campaign` notes it in its ledger, and `not_in_mean()` says which nights are missing and why.
+`explain` has every answer in words. A `Campaign` notes its refused calls in a ledger, and `not_in_mean()` says which nights are missing and why.
 """
 
 import contextlib
@@ -17,7 +17,7 @@ import subprocess
 import tempfile
 from typing import NamedTuple, Optional
 
-from ledger import STATES, Ledger, details, refusal
+from ledger import STATES, Ledger, details, explain, refusal
 
 DAYS = 366
 SLOTS = 64

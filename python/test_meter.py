@@ -92,6 +92,10 @@ class Refusals(Case):
         self.assertEqual(self.refused(5, meter.predict, Y[:6], 3), said)
         self.assertEqual(self.refused(5, meter.Campaign(3).enter, 1, Y[:6]), said)
 
+    def test_answers_in_words(self):
+        said = ["accepted", "verdict kept and C days stand", "the program only: order above 9 or slots above 8", "unknown"]
+        self.assertEqual([meter.explain(n) for n in (0, 12, 17, 18)], said)
+
     def test_a_refusal_keeps_its_number_when_pickled(self):
         with self.assertRaises(meter.Refused) as met:
             meter.recording(Y[:6], 3)
@@ -204,6 +208,7 @@ class Programs(Case):
                 "",
             ],
         )
+        self.assertIn(done.stdout + "```", (here.parent / "docs/MANUAL.md").read_text())
 
 
 if __name__ == "__main__":

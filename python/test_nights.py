@@ -1,5 +1,5 @@
-"""Tries nights.py on the examples, on a year that has more good nights than slots, on random logs and on lines that are not the log's; `door/run`
-builds the second program, whose lines these are, before."""
+"""Tries nights.py on the examples, as the manual and README.md show them too, on a year that has more good nights than slots, on random logs and on
+lines that are not the log's; `door/run` builds the second program, whose lines these are, before."""
 import pathlib
 import subprocess
 import sys
@@ -63,6 +63,12 @@ class Tables(unittest.TestCase):
                 "year": "standing 3, overloaded 0, dead 2, withdrawn 2; response lines that agree: 3",
             },
         )
+
+    def test_what_the_pages_show(self):
+        for name, page in [("year", "docs/MANUAL.md"), ("paper", "README.md")]:
+            log, lines = ((root / "examples" / f"{name}.{kind}").read_bytes() for kind in ("log", "lines"))
+            self.assertIn("\n".join(["", *table(log, lines), "```"]), (root / page).read_text())
+        self.assertIn(f"$ cat paper.lines\n{lines.decode()}$ ", (root / "README.md").read_text())
 
     def test_300_good_nights_in_8_slots(self):
         night = "samples -1 -3 -1 3 3 -3 1\nenter\n"

@@ -1,0 +1,42 @@
+/* A campaign of order 3 with 2 slots, from C: three nights are entered, and the mean of those that stand is printed. */
+#include "meter.h"
+#include <inttypes.h>
+#include <stdio.h>
+
+enum { ORDER = 3, TAPS = 3, P = 7, SLOT_COUNT = 2 };
+
+static uint8_t days[METER_DAYS];
+static uint16_t slots[METER_SLOTS];
+static int32_t store[SLOT_COUNT * P];
+static int64_t sums[P];
+
+#define CAMPAIGN ORDER, TAPS, SLOT_COUNT, days, METER_DAYS, slots, METER_SLOTS, store, SLOT_COUNT * P, sums, P
+
+static void enter(uint32_t day, const int32_t *y) {
+    static const char *const verdicts[] = {"", "kept", "overloaded", "dead"};
+    uint32_t state = METER_UNSEEN;
+    size_t value = 0;
+    uint32_t answer = meter_enter(CAMPAIGN, day, y, P, &state, &value);
+    printf("day %" PRIu32 ": %s\n", day, answer != METER_ACCEPTED ? meter_explain(answer) : verdicts[state]);
+}
+
+int main(void) {
+    const int32_t heard[P] = {-1, -3, -1, 3, 3, -3, 1}, still[P] = {5, 5, 5, 5, 5, 5, 5};
+    int64_t r[P], room[P + 1];
+    int32_t mean[P];
+    uint16_t tags[2 * P];
+    uint32_t answer = meter_start(CAMPAIGN);
+    if (answer == METER_ACCEPTED) {
+        enter(1, heard);
+        enter(2, still);
+        enter(367, heard);
+        answer = meter_response(CAMPAIGN, r, P, mean, P, room, P + 1, tags, 2 * P);
+    }
+    if (answer != METER_ACCEPTED) {
+        printf("refused: %s\n", meter_explain(answer));
+        return 1;
+    }
+    for (int k = 0; k < P; k++)
+        printf("%d %" PRId64 " %" PRId32 "\n", k, r[k], mean[k]);
+    return 0;
+}
