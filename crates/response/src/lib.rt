@@ -1,5 +1,6 @@
 // One recording turned into a response, and a recording predicted from one.
 pub mod clear;
+mod direct;
 pub mod gather;
 mod hear;
 mod prediction;
@@ -11,6 +12,7 @@ pub mod spread;
 pub mod wide;
 
 pub use prediction::predict;
+pub use prediction::predict_in_room;
 pub use recording::one_recording;
 
 pub const LOWEST_SAMPLE: i64 = -8388608;
