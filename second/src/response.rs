@@ -83,6 +83,23 @@ pub fn predict(order: u32, taps: u32, h: &[i32], y: &mut [i32]) -> Result<(), Re
     Ok(())
 }
 
+/// The same with a lent room of P+1 wide numbers: 6 also where that is too short. On success the room holds zeros, and a longer one
+/// keeps its tail.
+pub fn predict_in_room(
+    order: u32,
+    taps: u32,
+    h: &[i32],
+    y: &mut [i32],
+    wide: &mut [i64],
+) -> Result<(), Refusal> {
+    let p = period(order);
+    // A room too short is an output too short: 6 in its place.
+    let places = if wide.len() < p + 1 { 0 } else { y.len() };
+    predict(order, taps, h, &mut y[..places])?;
+    wide[..p + 1].fill(0);
+    Ok(())
+}
+
 /// r divided by a positive divisor, to nearest, halves away from zero.
 pub fn mean(r: i64, divisor: i64) -> i64 {
     let size = (2 * r.abs() + divisor) / (2 * divisor);
