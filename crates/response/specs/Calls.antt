@@ -106,6 +106,7 @@ unfoldable pub roomedOutcome : ℕ → ℕ → List ℤ → List ℤ → List �
 roomedOutcome N taps h out room =
     outcome (roomedChecks N taps h out room) (λ n. (n, out, room)) (0, foretold N taps h out, clearedWide (P N + 1) room)
 
+-- what is left of it once 1 to 7 are passed
 abbrev pub heardInRoom : ℕ → ℕ → List ℤ → List ℤ → List ℤ → ℕ × List ℤ × List ℤ
 heardInRoom N taps h out room =
     outcome (eighth N taps h) (λ n. (n, out, room)) (0, foretold N taps h out, clearedWide (P N + 1) room)

@@ -3,6 +3,7 @@ pub mod clear;
 mod direct;
 pub mod gather;
 mod hear;
+mod lent;
 mod prediction;
 pub mod range;
 mod recording;
@@ -11,8 +12,8 @@ pub mod rooms;
 pub mod spread;
 pub mod wide;
 
+pub use lent::predict_in_room;
 pub use prediction::predict;
-pub use prediction::predict_in_room;
 pub use recording::one_recording;
 
 pub const LOWEST_SAMPLE: i64 = -8388608;

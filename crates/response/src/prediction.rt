@@ -1,11 +1,8 @@
-// A recording predicted from a response, by the same route the other way round: in a room of its own, or in one that is lent.
-use crate::clear::clear_wide;
-use crate::direct::known_loud;
+// A recording predicted from a response, by the same route the other way round, in a room of its own.
 use crate::hear::some_heard_out;
 use crate::hear::write_heard;
 use crate::range::some_out;
 use crate::respond::transform_room;
-use crate::rooms::lent_short;
 use crate::spread::spread_back;
 use register::shift::full_period;
 use register::taps::check_taps;
@@ -16,10 +13,10 @@ ghost use lib.ListN.{length};
 ghost use Rattle.sums.specs.Lists.{at};
 ghost use Rattle.sums.specs.Refusals.{first};
 ghost use Rattle.register.specs.Register.{P, Accepted};
-ghost use Rattle.response.specs.Calls.{someOut, clearedWide, givenChecks, heardOutcome, heardInRoom, predictionOutcome, roomedOutcome};
+ghost use Rattle.response.specs.Calls.{someOut, clearedWide, givenChecks, heardOutcome, predictionOutcome};
 
-// The samples, in the room lent: 0, or 8 with the output left as it was. Past its first P+1 numbers the room is as it was.
-fn predict_in(order: u32, taps: u32, h: &[i32], out: &mut [i32], room: &mut [i64]) -> u32
+// The samples, worked in a room: 0, or 8 with the output left as it was. Past its first P+1 numbers the room is as it was.
+pub fn predict_in(order: u32, taps: u32, h: &[i32], out: &mut [i32], room: &mut [i64]) -> u32
     requires { ⌜ (Accepted order taps) × (length (now h) ≡ P order) × (P order ≤ length (now out)) × (P order < length (now room)) ⌝ }
     requires { ⌜ someOut (length (now h)) (at (now h)) ≡ false ⌝ }
     ensures { λ r. ⌜ ((r, now (out .exit)) ≡ heardOutcome order taps (now (h .entry)) (now (out .entry)))
@@ -77,7 +74,7 @@ fn predict_alone(order: u32, taps: u32, h: &[i32], out: &mut [i32], most: u32) -
 }
 
 // 1 to 5: of the order, the taps and the response handed in.
-fn given_refusal(order: u32, taps: u32, h: &[i32]) -> u32
+pub fn given_refusal(order: u32, taps: u32, h: &[i32]) -> u32
     ensures { λ r. ⌜ r ≡ first (givenChecks order taps (now (h .entry))) ⌝ }
 {
     let refusal = check_taps(order, taps);
@@ -105,37 +102,4 @@ pub fn predict(order: u32, taps: u32, h: &[i32], out: &mut [i32]) -> u32
         return 7;
     }
     predict_alone(order, taps, h, out, 12)
-}
-
-// The samples in a lent room, which holds zeros after it: 0, or 8 with the output and the room left as they were. A room of zeros is cleared again, which
-// leaves it as it was; of any other 8 is known beforehand.
-fn predict_lent(order: u32, taps: u32, h: &[i32], out: &mut [i32], room: &mut [i64]) -> u32
-    requires { ⌜ (Accepted order taps) × (length (now h) ≡ P order) × (P order ≤ length (now out)) × (P order < length (now room)) ⌝ }
-    requires { ⌜ someOut (length (now h)) (at (now h)) ≡ false ⌝ }
-    ensures { λ r. ⌜ (r, now (out .exit), now (room .exit)) ≡ heardInRoom order taps (now (h .entry)) (now (out .entry)) (now (room .entry)) ⌝ }
-{
-    if known_loud(order, taps, h, room) {
-        return 8;
-    }
-    let answer = predict_in(order, taps, h, out, room);
-    clear_wide(room, h.len() + 1);
-    answer
-}
-
-// y(j) at every place, worked in a lent room: 0, or the refusal. The room that was used holds zeros after it.
-pub fn predict_in_room(order: u32, taps: u32, h: &[i32], out: &mut [i32], room: &mut [i64]) -> u32
-    ensures { λ r. ⌜ (r, now (out .exit), now (room .exit))
-        ≡ roomedOutcome order taps (now (h .entry)) (now (out .entry)) (now (room .entry)) ⌝ }
-{
-    let refusal = given_refusal(order, taps, h);
-    if refusal != 0 {
-        return refusal;
-    }
-    if lent_short(h.len(), out.len(), room.len()) {
-        return 6;
-    }
-    if some_out(h) {
-        return 7;
-    }
-    predict_lent(order, taps, h, out, room)
 }

@@ -1,7 +1,6 @@
 -- `response::prediction::given_refusal` meets its contract: the taps check decides 1 to 4, and the length the fifth. Assumes nothing.
 use borrow.Author.Needs.{needs}
-use mathlib.Core.Path.{_≡_, sym, _∙_}
-use Rattle.register.specs.Register.{Accepted}
+use mathlib.Core.Path.{sym, _∙_}
 use Rattle.register.proofs.Judged.{accepted-exactly}
 use Rattle.response.proofs.Foretelling.{given-refused, given-five, given-none}
 use Rattle.response.proofs.prediction.given_refusal.Statement.{statement}

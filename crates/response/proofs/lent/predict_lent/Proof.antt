@@ -1,17 +1,16 @@
--- `response::prediction::predict_lent` meets its contract: an 8 that is found late is one in a room of zeros. Assumes nothing.
+-- `response::lent::predict_lent` meets its contract: an 8 that is found late is one in a room of zeros. Assumes nothing.
 use borrow.Author.Needs.{needs}
 use mathlib.Core.Path.{_≡_, ap, _∙_}
-use mathlib.Core.Bool.{true}
 use mathlib.Core.List.{List}
-use Prim.Native.Nat.{ℕ, _+_}
+use Prim.Native.Nat.{_+_}
 use native.Mathlib.Omega.{arith}
 use lib.IntN.{ℤ}
 use Rattle.register.specs.Register.{P}
-use Rattle.response.specs.Calls.{someOut, predicted, clearedWide, heardInRoom}
+use Rattle.response.specs.Calls.{clearedWide}
 use Rattle.response.proofs.Clearing.{cleared-zeros}
 use Rattle.response.proofs.Foretelling.{in-room}
-use Rattle.response.proofs.prediction.predict_lent.Statement.{statement}
-use Rattle.response.proofs.prediction.predict_lent.Tie as tie
+use Rattle.response.proofs.lent.predict_lent.Statement.{statement}
+use Rattle.response.proofs.lent.predict_lent.Tie as tie
 
 known-loud-requires : tie.Need-known-loud-requires
 known-loud-requires c κs = search needs

@@ -1,4 +1,4 @@
--- `response::prediction::predict_in_room` meets its contract: what is handed in decides 1 to 5, the lengths lent and the range 6 and 7, and the
+-- `response::lent::predict_in_room` meets its contract: what is handed in decides 1 to 5, the lengths lent and the range 6 and 7, and the
 -- prediction the eighth. Assumes nothing.
 use borrow.Author.Needs.{needs}
 use borrow.Author.Tests.{ltb-false}
@@ -15,8 +15,8 @@ use Rattle.register.specs.Register.{P, Accepted}
 use Rattle.register.proofs.Word.{small}
 use Rattle.response.specs.Calls.{foretold, clearedWide, lentShort, roomedOutcome}
 use Rattle.response.proofs.Foretelling.{given-passed, refused, six, seven, left}
-use Rattle.response.proofs.prediction.predict_in_room.Statement.{statement}
-use Rattle.response.proofs.prediction.predict_in_room.Tie as tie
+use Rattle.response.proofs.lent.predict_in_room.Statement.{statement}
+use Rattle.response.proofs.lent.predict_in_room.Tie as tie
 
 -- what is handed back on a refusal, what is made, and the test of the output
 abbrev kept : tie.Start → ℕ → ℕ × List ℤ × List ℤ
