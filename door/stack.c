@@ -74,22 +74,30 @@ static size_t larger(size_t a, size_t b) { return a < b ? b : a; }
 /* The most of the refusals 1 to 7 at an order. */
 static size_t refused(uint32_t order, int lent) {
     size_t most = 0;
-    set(order, lent), call.order = 17, most = larger(most, taken(1));
-    set(order, lent), call.taps = 1u << order, most = larger(most, taken(2));
-    set(order, lent), call.taps = 2, most = larger(most, taken(3));
-    set(order, lent), call.taps = 1, most = larger(most, taken(4));
-    set(order, lent), call.h_len--, most = larger(most, taken(5));
-    set(order, lent), call.out_len--, most = larger(most, taken(6));
-    set(order, lent), h[1] = 8388608, most = larger(most, taken(7));
+    for (uint32_t number = 1; number <= 7; number++) {
+        set(order, lent);
+        switch (number) {
+        case 1: call.order = 17; break;
+        case 2: call.taps = 1u << order; break;
+        case 3: call.taps = 2; break;
+        case 4: call.taps = 1; break;
+        case 5: call.h_len--; break;
+        case 6: *(lent ? &call.room_len : &call.out_len) -= 1; break;
+        default: h[1] = 8388608; break;
+        }
+        most = larger(most, taken(number));
+    }
     return most;
 }
 
-/* The most of a prediction that is accepted, and of one that is refused with 8. */
-static size_t worked(uint32_t order, int lent) {
+/* The most of a prediction that is accepted, and of one that is refused with 8, with this number at the lent room's first place. */
+static size_t worked(uint32_t order, int lent, int64_t first) {
     set(order, lent);
-    size_t most = taken(0);
-    set(order, lent), h[0] = h[1] = 8388607;
-    return larger(most, taken(8));
+    room[0] = first;
+    h[1] = h[0] = 8388607;
+    size_t most = taken(8);
+    set(order, lent);
+    return larger(most, taken(0));
 }
 
 static void hold(const char *what, size_t bytes, size_t most) {
@@ -105,14 +113,13 @@ int main(void) {
     for (uint32_t order = 2; order <= ORDERS; order++) {
         no = larger(no, refused(order, 0));
         if (order <= SHORT_ORDERS)
-            few = larger(few, worked(order, 0));
+            few = larger(few, worked(order, 0, 0));
         else
-            many = larger(many, worked(order, 0));
-        lent = larger(lent, larger(refused(order, 1), worked(order, 1)));
+            many = larger(many, worked(order, 0, 0));
+        lent = larger(lent, larger(refused(order, 1), worked(order, 1, 0)));
     }
-    /* A room that does not hold zeros, at an order whose P^2 steps do not take long. */
-    room[0] = 1, set(10, 1), h[0] = h[1] = 8388607, lent = larger(lent, taken(8));
-    room[0] = 1, set(10, 1), lent = larger(lent, taken(0));
+    /* A room that does not hold zeros, at an order whose P * P steps do not take long. */
+    lent = larger(lent, worked(10, 1, 1));
     hold("meter_predict refused with 1 to 7", no, REFUSED);
     hold("meter_predict up to order 12", few, SHORT);
     hold("meter_predict from order 13", many, LONG);
