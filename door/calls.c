@@ -65,7 +65,8 @@ static void registers(void) {
 }
 
 static void recordings(void) {
-    int32_t h[P] = {2, 0, -1, 0, 0, 0, 0}, y[P + 1] = {0};
+    const int32_t h[P] = {2, 0, -1, 0, 0, 0, 0}, loud[P] = {8388607, 8388607};
+    int32_t y[P + 1] = {0};
     y[P] = 9;
     r[P] = 9;
     room[P + 1] = 9;
@@ -73,6 +74,16 @@ static void recordings(void) {
     EXPECT(meter_predict(ORDER, TAPS, h, 6, y, P + 1) == 5);
     EXPECT(meter_predict(ORDER, TAPS, h, P, y, P + 1) == 0);
     EXPECT(memcmp(y, (int32_t[]){-1, -3, -1, 3, 3, -3, 1, 9}, sizeof y) == 0);
+    y[0] = 9;
+    room[0] = 9;
+    EXPECT(meter_predict_in_room(ORDER, TAPS, h, P, y, P + 1, room, P) == 6 && y[0] == 9 && room[0] == 9);
+    EXPECT(meter_predict_in_room(ORDER, TAPS, loud, P, y, P + 1, room, P + 2) == 8 && y[0] == 9 && room[0] == 9);
+    EXPECT(meter_predict_in_room(ORDER, TAPS, h, P, y, P + 1, room, P + 2) == 0);
+    EXPECT(memcmp(y, (int32_t[]){-1, -3, -1, 3, 3, -3, 1, 9}, sizeof y) == 0 && memcmp(room, (int64_t[]){0, 0, 0, 0, 0, 0, 0, 0, 9}, sizeof room) == 0);
+    y[0] = 9;
+    EXPECT(meter_predict_in_room(ORDER, TAPS, loud, P, y, P + 1, room, P + 2) == 8 && y[0] == 9);
+    EXPECT(memcmp(room, (int64_t[]){0, 0, 0, 0, 0, 0, 0, 0, 9}, sizeof room) == 0);
+    y[0] = -1;
     EXPECT(meter_recording(ORDER, TAPS, y, P, r, P + 1, room, P, tags, 2 * P) == 6);
     EXPECT(meter_recording(ORDER, TAPS, y, P, r, P + 1, ROOM) == 0);
     EXPECT(memcmp(r, (int64_t[]){16, 0, -8, 0, 0, 0, 0, 9}, sizeof r) == 0);

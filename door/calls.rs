@@ -13,6 +13,9 @@ mod declared {
         pub fn meter_recording(order: u32, taps: u32, y: *const i32, y_len: usize, out: *mut i64, out_len: usize,
             room: *mut i64, room_len: usize, tags: *mut u16, tags_len: usize) -> u32;
         pub fn meter_predict(order: u32, taps: u32, h: *const i32, h_len: usize, out: *mut i32, out_len: usize) -> u32;
+        pub fn meter_predict_in_room(
+            order: u32, taps: u32, h: *const i32, h_len: usize, out: *mut i32, out_len: usize, room: *mut i64, room_len: usize,
+        ) -> u32;
         pub fn meter_start(order: u32, taps: u32, slot_count: u32, days: *mut u8, days_len: usize, slots: *mut u16, slots_len: usize,
             store: *mut i32, store_len: usize, sums: *mut i64, sums_len: usize) -> u32;
         pub fn meter_enter(order: u32, taps: u32, slot_count: u32, days: *mut u8, days_len: usize, slots: *mut u16, slots_len: usize,
@@ -107,6 +110,12 @@ fn recording(order: u32, taps: u32, y: &[i32], out: &mut [i64], room: &mut Room)
 
 fn predict(order: u32, taps: u32, h: &[i32], out: &mut [i32]) -> u32 {
     unsafe { declared::meter_predict(order, taps, h.as_ptr(), h.len(), out.as_mut_ptr(), out.len()) }
+}
+
+fn predict_in_room(order: u32, taps: u32, h: &[i32], out: &mut [i32], room: &mut [i64]) -> u32 {
+    unsafe {
+        declared::meter_predict_in_room(order, taps, h.as_ptr(), h.len(), out.as_mut_ptr(), out.len(), room.as_mut_ptr(), room.len())
+    }
 }
 
 struct Campaign {
@@ -209,6 +218,10 @@ fn main() -> ExitCode {
     let (mut room, mut r, mut y) = (Room::new(7), [0i64; 7], [0i32; 7]);
     expect!(predict(3, 3, &[2, 0, -1, 0, 0, 0, 0], &mut y) == 0);
     expect!(y == Y);
+    let (mut lent, mut again) = ([9i64; 9], [0i32; 7]);
+    expect!(predict_in_room(3, 3, &[2, 0, -1, 0, 0, 0, 0], &mut again, &mut lent[..7]) == 6);
+    expect!(predict_in_room(3, 3, &[2, 0, -1, 0, 0, 0, 0], &mut again, &mut lent) == 0);
+    expect!(again == Y && lent == [0, 0, 0, 0, 0, 0, 0, 0, 9]);
     expect!(recording(3, 3, &Y, &mut r, &mut room) == 0);
     expect!(r == R && room.is_clear());
     expect!(recording(3, 3, &Y[..6], &mut r, &mut room) == 5);

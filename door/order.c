@@ -35,6 +35,12 @@ static uint32_t predict(uint32_t order, uint32_t taps, int32_t first, size_t n, 
     return meter_predict(order, taps, h, n, out, out_len);
 }
 
+static uint32_t predict_in_room(uint32_t order, uint32_t taps, int32_t first, size_t n, size_t out_len, size_t room_len) {
+    int32_t h[P] = {first}, out[P];
+    int64_t room[ROOM] = {1};
+    return meter_predict_in_room(order, taps, h, n, out, out_len, room, room_len);
+}
+
 static uint32_t start(uint32_t order, uint32_t taps, uint32_t count, size_t store_len, size_t sums_len) {
     return meter_start(order, taps, count, days, METER_DAYS, slots, METER_SLOTS, store, store_len, sums, sums_len);
 }
@@ -63,6 +69,7 @@ static void registers(void) {
         line("sequence", checks, sequence(order, taps, P));
         line("recording", checks, recording(order, taps, 1, P, P, ROOM, TAGS));
         line("predict", checks, predict(order, taps, 1, P, P));
+        line("predict in a room", checks, predict_in_room(order, taps, 1, P, P, ROOM));
         line("start", checks, start(order, taps, 1, P, P));
         if (i == 3)
             break;
@@ -87,6 +94,12 @@ static void recordings(void) {
     line("predict", "5 before 6", predict(2, 3, 1, P - 1, P - 1));
     line("predict", "6 before 7", predict(2, 3, 8388608, P, P - 1));
     line("predict", "7 before 8", predict(2, 3, 8388608, P, P));
+    line("predict in a room", "4 before 5", predict_in_room(2, 1, 1, P - 1, P, ROOM));
+    line("predict in a room", "5 before 6", predict_in_room(2, 3, 1, P - 1, P - 1, ROOM));
+    line("predict in a room", "5 before 6", predict_in_room(2, 3, 1, P - 1, P, ROOM - 1));
+    line("predict in a room", "6 before 7", predict_in_room(2, 3, 8388608, P, P - 1, ROOM));
+    line("predict in a room", "6 before 7", predict_in_room(2, 3, 8388608, P, P, ROOM - 1));
+    line("predict in a room", "7 before 8", predict_in_room(2, 3, 8388608, P, P, ROOM));
     line("start", "4 before 9", start(2, 1, 0, P, P));
     line("start", "9 before 6", start(2, 3, 65, 64 * P, P));
     line("start", "9 before 6", start(2, 3, 0, P, P - 1));

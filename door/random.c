@@ -160,6 +160,23 @@ static void predict_case(void) {
     free(out);
 }
 
+/* The room holds zeros in every second case, and in all of the long orders, where another takes P * P steps. */
+static void predict_in_room_case(void) {
+    uint32_t order = any_order(), taps = any_taps(order);
+    size_t p = period_of(order), n = near(p), a = near(p), b = near(p + 1);
+    FILLED(int32_t, h, n);
+    FILLED(int32_t, out, a);
+    FILLED(int64_t, room, b);
+    if (below(2) == 0 || order > 12)
+        memset(room, 0, b * sizeof *room);
+    draw_samples(h, n);
+    uint32_t answer = meter_predict_in_room(order, taps, h, n, out, a, room, b);
+    printf("%" PRIu64 " predict in a room %u %" PRId64 " %" PRId64 "\n", number, answer, d32(out, a), d64(room, b));
+    free(h);
+    free(out);
+    free(room);
+}
+
 /* ---- a campaign: its start, and a run of calls on what that left, some on a damaged record ---- */
 
 struct held {
@@ -315,11 +332,11 @@ int main(int words, char **word) {
     if (words != 3)
         return fprintf(stderr, "usage: random SEED COUNT\n"), 2;
     uint64_t seed = strtoull(word[1], NULL, 10), count = strtoull(word[2], NULL, 10);
-    static void (*const cases[8])(void) = {taps_case, sequence_case, player_case, recording_case, predict_case,
+    static void (*const cases[9])(void) = {taps_case, sequence_case, player_case, recording_case, predict_case, predict_in_room_case,
                                            campaign_case, campaign_case, campaign_case};
     for (number = 0; number < count; number++) {
         stream = mix(seed ^ mix(number + 1));
-        cases[below(8)]();
+        cases[below(9)]();
     }
     return 0;
 }

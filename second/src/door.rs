@@ -6,7 +6,7 @@ use crate::player::Player;
 use crate::reading::Summary;
 use crate::refusal::{number, Refusal, DOES_NOT_HOLD_TOGETHER, ROOM_TOO_SHORT};
 use crate::register::{check_taps, default_taps, sequence};
-use crate::response::{one_recording, predict, HIGHEST, LOWEST};
+use crate::response::{one_recording, predict, predict_in_room, HIGHEST, LOWEST};
 use crate::rng::Rng;
 use crate::room::Room;
 use crate::year_memory::digest_of;
@@ -16,12 +16,13 @@ use std::io::{self, Write};
 pub fn print(seed: u64, count: u64, out: &mut impl Write) -> io::Result<()> {
     for case in 0..count {
         let mut rng = Rng::for_log(seed, case);
-        let lines = match rng.below(8) {
+        let lines = match rng.below(9) {
             0 => taps_case(&mut rng),
             1 => sequence_case(&mut rng),
             2 => player_case(&mut rng),
             3 => recording_case(&mut rng),
             4 => predict_case(&mut rng),
+            5 => predict_in_room_case(&mut rng),
             _ => campaign_case(&mut rng),
         };
         for line in lines {
@@ -190,6 +191,26 @@ fn predict_case(rng: &mut Rng) -> Vec<String> {
     let h = samples(rng, n);
     let answer = number(&predict(order, taps, &h, &mut out));
     vec![format!("predict {answer} {}", digest_of(&out))]
+}
+
+/// The room holds zeros in every second case, and in all of the long orders.
+fn predict_in_room_case(rng: &mut Rng) -> Vec<String> {
+    let order = any_order(rng);
+    let taps = any_taps(rng, order);
+    let p = period_of(order);
+    let n = near(rng, p);
+    let mut out: Vec<i32> = filled(near(rng, p));
+    let mut wide: Vec<i64> = filled(near(rng, p + 1));
+    if rng.below(2) == 0 || order > 12 {
+        wide.fill(0);
+    }
+    let h = samples(rng, n);
+    let answer = number(&predict_in_room(order, taps, &h, &mut out, &mut wide));
+    vec![format!(
+        "predict in a room {answer} {} {}",
+        digest_of(&out),
+        digest_of(&wide)
+    )]
 }
 
 /// What a campaign's caller holds: the record's numbers and tables, and the memory.

@@ -7,7 +7,7 @@ use crate::player::Player;
 use crate::reading::Summary;
 use crate::refusal::{number, Refusal};
 use crate::register::{check_taps, sequence};
-use crate::response::{one_recording, predict};
+use crate::response::{one_recording, predict, predict_in_room};
 use crate::room::Room;
 use std::io::{self, Write};
 
@@ -56,6 +56,19 @@ fn predicted(order: u32, taps: u32, first: i32, n: usize, out: usize) -> Refusal
     number(&predict(order, taps, h, &mut vec![0; out]))
 }
 
+/// With an output and a room of these lengths.
+fn predicted_in_room(order: u32, taps: u32, first: i32, n: usize, lengths: [usize; 2]) -> Refusal {
+    let h = &[first, 0, 0][..n];
+    let [out, wide] = lengths;
+    number(&predict_in_room(
+        order,
+        taps,
+        h,
+        &mut vec![0; out],
+        &mut vec![1; wide],
+    ))
+}
+
 fn started(order: u32, taps: u32, count: u32, store: usize, sums: usize) -> Refusal {
     let (store, sums) = (&mut vec![0; store], &mut vec![0; sums]);
     number(&start(order, taps, count, store, sums))
@@ -88,6 +101,10 @@ fn registers() -> Vec<String> {
         add("sequence", told(order, taps, P));
         add("recording", heard(order, taps, 1, P, [P, ROOM, TAGS]));
         add("predict", predicted(order, taps, 1, P, P));
+        add(
+            "predict in a room",
+            predicted_in_room(order, taps, 1, P, [P, ROOM]),
+        );
         add("start", started(order, taps, 1, P, P));
         if checks != "3 before 4" {
             add("new player", number(&Player::new(order, taps)));
@@ -132,6 +149,31 @@ fn recordings() -> Vec<String> {
         predicted(2, 3, 8_388_608, P, P - 1),
     );
     add("predict", "7 before 8", predicted(2, 3, 8_388_608, P, P));
+    let in_a_room = "predict in a room";
+    add(
+        in_a_room,
+        "4 before 5",
+        predicted_in_room(2, 1, 1, P - 1, [P, ROOM]),
+    );
+    for lengths in [[P - 1, ROOM], [P, ROOM - 1]] {
+        add(
+            in_a_room,
+            "5 before 6",
+            predicted_in_room(2, 3, 1, P - 1, lengths),
+        );
+    }
+    for lengths in [[P - 1, ROOM], [P, ROOM - 1]] {
+        add(
+            in_a_room,
+            "6 before 7",
+            predicted_in_room(2, 3, 8_388_608, P, lengths),
+        );
+    }
+    add(
+        in_a_room,
+        "7 before 8",
+        predicted_in_room(2, 3, 8_388_608, P, [P, ROOM]),
+    );
     add("start", "4 before 9", started(2, 1, 0, P, P));
     add("start", "9 before 6", started(2, 3, 65, 64 * P, P));
     add("start", "9 before 6", started(2, 3, 0, P, P - 1));

@@ -56,14 +56,19 @@ pub fn one_recording(
     Ok(())
 }
 
-/// Writes y(j), the sum over i of h(i)·x(j-i). Refusals 1 to 8.
-pub fn predict(order: u32, taps: u32, h: &[i32], y: &mut [i32]) -> Result<(), Refusal> {
+/// y(j), the sum over i of h(i)·x(j-i), where nothing is refused. Refusals 1 to 8; `short` says of P whether what is lent is too short.
+fn predicted(
+    order: u32,
+    taps: u32,
+    h: &[i32],
+    short: impl Fn(usize) -> bool,
+) -> Result<Vec<i32>, Refusal> {
     check_taps(order, taps)?;
     let p = period(order);
     if h.len() != p {
         return Err(NOT_P_LONG);
     }
-    if y.len() < p {
+    if short(p) {
         return Err(ROOM_TOO_SHORT);
     }
     let h: Vec<i64> = h.iter().map(|&v| i64::from(v)).collect();
@@ -77,9 +82,28 @@ pub fn predict(order: u32, taps: u32, h: &[i32], y: &mut [i32]) -> Result<(), Re
     if !predicted.iter().all(|&v| in_sample_range(v)) {
         return Err(PREDICTED_OUTSIDE_RANGE);
     }
-    for (place, value) in y.iter_mut().zip(predicted) {
-        *place = value as i32;
-    }
+    Ok(predicted.iter().map(|&v| v as i32).collect())
+}
+
+/// Writes the predicted recording.
+pub fn predict(order: u32, taps: u32, h: &[i32], y: &mut [i32]) -> Result<(), Refusal> {
+    let samples = predicted(order, taps, h, |p| y.len() < p)?;
+    y[..samples.len()].copy_from_slice(&samples);
+    Ok(())
+}
+
+/// The same with a lent room of P+1 wide numbers: 6 also where that is too short. On success the room holds zeros, and a longer one
+/// keeps its tail.
+pub fn predict_in_room(
+    order: u32,
+    taps: u32,
+    h: &[i32],
+    y: &mut [i32],
+    wide: &mut [i64],
+) -> Result<(), Refusal> {
+    let samples = predicted(order, taps, h, |p| y.len() < p || wide.len() < p + 1)?;
+    y[..samples.len()].copy_from_slice(&samples);
+    wide[..samples.len() + 1].fill(0);
     Ok(())
 }
 

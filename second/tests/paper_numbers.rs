@@ -3,7 +3,7 @@
 use second::numbers::{digest, pattern, response_of};
 use second::refusal::number;
 use second::register::{check_taps, default_taps, first_return, period, sequence, signal};
-use second::response::{mean, predict, HIGHEST, LOWEST};
+use second::response::{mean, predict, predict_in_room, HIGHEST, LOWEST};
 
 fn bits(order: u32, taps: u32) -> Vec<u8> {
     let mut bits = vec![9; period(order)];
@@ -76,6 +76,21 @@ fn refusals_of_one_recording_and_of_a_prediction() {
     assert_eq!(predict(&[0; 6]), 5);
     assert_eq!(predict(&[8_388_608, 0, 0, 0, 0, 0, 0]), 7);
     assert_eq!(predict(&[HIGHEST, HIGHEST, 0, 0, 0, 0, 0]), 8);
+}
+
+#[test]
+fn a_prediction_in_a_lent_room() {
+    let (h, loud) = ([2, 0, -1, 0, 0, 0, 0], [HIGHEST, HIGHEST, 0, 0, 0, 0, 0]);
+    let (mut y, mut room) = ([9; 8], [9; 9]);
+    assert_eq!(
+        number(&predict_in_room(3, 3, &h, &mut y, &mut room[..7])),
+        6
+    );
+    assert_eq!(number(&predict_in_room(3, 3, &loud, &mut y, &mut room)), 8);
+    assert_eq!((y, room), ([9; 8], [9; 9]));
+    assert_eq!(predict_in_room(3, 3, &h, &mut y, &mut room), Ok(()));
+    assert_eq!(y, [-1, -3, -1, 3, 3, -3, 1, 9]);
+    assert_eq!(room, [0, 0, 0, 0, 0, 0, 0, 0, 9]);
 }
 
 #[test]

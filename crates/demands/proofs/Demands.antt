@@ -32,7 +32,7 @@ use Rattle.player.specs.declared.Tick.the-variants as tick
 use Rattle.player.specs.declared.Stepped.{Stepped}
 use Rattle.player.specs.declared.Played.{Played}
 use Rattle.response.specs.Response as formula
-use Rattle.response.specs.Calls.{recordingChecks, recordingOutcome, predictionChecks, predictionOutcome}
+use Rattle.response.specs.Calls.{recordingChecks, recordingOutcome, predictionChecks, predictionOutcome, roomedChecks, roomedOutcome}
 use Rattle.rounding.specs.Rounding.{nearest}
 use Rattle.records.specs.Record.{unseen, standing, overloaded, dead, withdrawn, state, stands, daysIn, together, apart, fresh, filed}
 use Rattle.records.proofs.Refiling.{Day}
@@ -53,8 +53,8 @@ use Rattle.history.proofs.EveryRun as every-run
 use Rattle.history.proofs.AsIf as as-if
 use Rattle.demands.specs.Buffers.{KeepsTail}
 use Rattle.demands.proofs.Checking.{answers-first, refused-same, either-0, entry-answers-first, entry-refused-same, refused-leaves}
-use Rattle.demands.proofs.Tails.{sequence-tail, recording-tails, prediction-tail, start-tails, enter-tails, withdraw-tails, response-tails, summary-tails}
-use Rattle.demands.proofs.Measuring.{sequence-at, response-at, response-small, prediction-at}
+use Rattle.demands.proofs.Tails.{sequence-tail, recording-tails, prediction-tail, prediction-in-room-tails, start-tails, enter-tails, withdraw-tails, response-tails, summary-tails}
+use Rattle.demands.proofs.Measuring.{sequence-at, response-at, response-small, prediction-at, prediction-in-room-at}
 
 -- ---- 1. "Every public call ends, on all inputs, with an answer. It refuses for the causes listed in document 01, in the order given there, and for
 -- no other. A refused call changes nothing in the caller's memory or record."
@@ -88,6 +88,9 @@ pub record Refusals : Type 0 where
       (λ n. (n, out, room, tags)) (recordingOutcome N taps y out room tags)
   pub prediction : (N taps : ℕ) (h out : List ℤ)
       → Checked (1 ∷ 2 ∷ 3 ∷ 4 ∷ 5 ∷ 6 ∷ 7 ∷ 8 ∷ []) (predictionChecks N taps h out) (λ (o : ℕ × List ℤ). o .0) (λ n. (n, out)) (predictionOutcome N taps h out)
+  pub prediction-in-room : (N taps : ℕ) (h out room : List ℤ)
+      → Checked (1 ∷ 2 ∷ 3 ∷ 4 ∷ 5 ∷ 6 ∷ 7 ∷ 8 ∷ []) (roomedChecks N taps h out room) (λ (o : ℕ × List ℤ × List ℤ). o .0) (λ n. (n, out, room))
+      (roomedOutcome N taps h out room)
   pub default-taps : (N : ℕ) → Checked (1 ∷ []) ((1, orderOut N) ∷ []) defaultNumber default.Refused (defaultOutcome N)
   pub start : (c : Campaign) (N taps C : ℕ) (store sums : List ℤ)
       → Checked (1 ∷ 2 ∷ 3 ∷ 4 ∷ 9 ∷ 6 ∷ []) (startChecks N taps C store sums) (λ (o : Started × List ℤ × List ℤ). o .0 .answer)
@@ -113,6 +116,8 @@ pub record Tails : Type 0 where
   pub recording : (N taps : ℕ) (y out room : List ℤ) (tags : List ℕ) → let o = recordingOutcome N taps y out room tags in
       KeepsTail (P N) out (o .1) × KeepsTail (P N + 1) room (o .2) × KeepsTail (2 * P N) tags (o .3)
   pub prediction : (N taps : ℕ) (h out : List ℤ) → KeepsTail (P N) out (predictionOutcome N taps h out .1)
+  pub prediction-in-room : (N taps : ℕ) (h out room : List ℤ) → let o = roomedOutcome N taps h out room in
+      KeepsTail (P N) out (o .1) × KeepsTail (P N + 1) room (o .2)
   pub start : (c : Campaign) (N taps C : ℕ) (store sums : List ℤ) → let o = startOutcome c N taps C store sums in
       KeepsTail (C * P N) store (o .1) × KeepsTail (P N) sums (o .2)
   pub enter : (c : Campaign) (store sums : List ℤ) (d : ℕ) (y : List ℤ) → let o = enterOutcome c store sums d y in
@@ -135,7 +140,7 @@ checked order checks number back accepted e told none =
     }
 
 pub demand-1 : Refusals × Tails
-unfolding tapsAnswer sequenceOutcome defaultOutcome newOutcome stepOutcome playOutcome recordingOutcome predictionOutcome startOutcome withdrawOutcome countsOutcome responseOutcome summaryOutcome
+unfolding tapsAnswer sequenceOutcome defaultOutcome newOutcome stepOutcome playOutcome recordingOutcome predictionOutcome roomedOutcome startOutcome withdrawOutcome countsOutcome responseOutcome summaryOutcome
 demand-1 = (
   record {
     taps-check = λ N taps. record { in-order = refl; answer = refl; unchanged = λ _. refl };
@@ -145,6 +150,7 @@ demand-1 = (
     play = λ p signs. checked _ _ _ _ _ refl (λ n. refl) refl;
     recording = λ N taps y out room tags. checked _ _ _ _ _ refl (λ n. refl) refl;
     prediction = λ N taps h out. checked _ _ _ _ _ refl (λ n. refl) refl;
+    prediction-in-room = λ N taps h out room. checked _ _ _ _ _ refl (λ n. refl) refl;
     default-taps = λ N. checked _ _ _ _ _ refl (λ n. refl) refl;
     start = λ c N taps C store sums. checked _ _ _ _ _ refl (λ n. refl) refl;
     enter = λ c store sums d y.
@@ -158,6 +164,7 @@ demand-1 = (
     sequence = sequence-tail;
     recording = recording-tails;
     prediction = prediction-tail;
+    prediction-in-room = prediction-in-room-tails;
     start = start-tails;
     enter = enter-tails;
     withdraw = withdraw-tails;
@@ -184,6 +191,8 @@ pub record Measures : Type 0 where
       → (k : ℕ) → k < P N → natAbs (at (o .1) k) ≤ 2 ^ 39
   pub prediction : (N taps : ℕ) (h out : List ℤ) → let o = predictionOutcome N taps h out in o .0 ≡ 0
       → (j : ℕ) → j < P N → at (o .1) j ≡ sum (P N) (λ i. at h i *ℤ wave N taps ((j + (P N - i)) % P N))
+  pub prediction-in-room : (N taps : ℕ) (h out room : List ℤ) → let o = roomedOutcome N taps h out room in o .0 ≡ 0
+      → (j : ℕ) → j < P N → at (o .1) j ≡ sum (P N) (λ i. at h i *ℤ wave N taps ((j + (P N - i)) % P N))
 
 pub demand-2 : Measures
 unfolding formula.response formula.correlation formula.prediction bit
@@ -194,6 +203,7 @@ demand-2 =
       recording = response-at;
       no-overflow = response-small;
       prediction = prediction-at;
+      prediction-in-room = prediction-in-room-at;
     }
 
 -- ---- 3. "After any run of calls from a fresh campaign, refused ones included and its lent memory untouched between, each day's state is what the last

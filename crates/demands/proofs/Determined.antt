@@ -26,6 +26,8 @@ use Rattle.meter.proofs.recordings.meter_recording.Kinds as recording-kinds
 use Rattle.meter.proofs.recordings.meter_recording.Reads as recording
 use Rattle.meter.proofs.recordings.meter_predict.Kinds as predict-kinds
 use Rattle.meter.proofs.recordings.meter_predict.Reads as predict
+use Rattle.meter.proofs.recordings.meter_predict_in_room.Kinds as predict-in-room-kinds
+use Rattle.meter.proofs.recordings.meter_predict_in_room.Reads as predict-in-room
 use Rattle.meter.proofs.campaigns.meter_start.Kinds as start-kinds
 use Rattle.meter.proofs.campaigns.meter_start.Reads as start
 use Rattle.meter.proofs.campaigns.meter_enter.Kinds as enter-kinds
@@ -62,6 +64,9 @@ recording-determined κs a x y s t p q = p ∙ sym q
 
 pub predict-determined : Determined 2 predict-kinds.ps predict-kinds.r (ℕ × List ℤ) predict.Learnt (λ κs r s. (r, now (s .1 .1 .1 .0)))
 predict-determined κs a x y s t p q = p ∙ sym q
+
+pub predict-in-room-determined : Determined 3 predict-in-room-kinds.ps predict-in-room-kinds.r (ℕ × List ℤ × List ℤ) predict-in-room.Learnt (λ κs r s. (r, now (s .1 .1 .1 .0), now (s .1 .1 .1 .1 .0)))
+predict-in-room-determined κs a x y s t p q = p ∙ sym q
 
 pub start-determined : Determined 4 start-kinds.ps start-kinds.r (ℕ × List ℕ × List ℕ × List ℤ × List ℤ) start.Learnt (λ κs r s. (r, now (s .1 .1 .1 .0), now (s .1 .1 .1 .1 .0), now (s .1 .1 .1 .1 .1 .0), now (s .1 .1 .1 .1 .1 .1 .0)))
 start-determined κs a x y s t p q = p ∙ sym q

@@ -29,7 +29,8 @@ use Rattle.demands.proofs.Tails.{same, put-tail, written, enter-tails, 
 use Rattle.demands.proofs.Handing.{Handed, enter-handed, withdraw-handed, Long, days-long, table-long}
 use Rattle.demands.proofs.Demands.{Checked, checked, enterAll, demand-1}
 
--- `meter_taps`, `meter_sequence`, `meter_recording` and `meter_predict` have the calls' own outcome functions, of which `demand-1` speaks
+-- `meter_taps`, `meter_sequence`, `meter_recording`, `meter_predict` and `meter_predict_in_room` have the calls' own outcome functions, of which
+-- `demand-1` speaks
 pub record DoorRefusals : Type 0 where
   pub default-taps : (N was : ℕ) → Checked (1 ∷ []) ((1, orderOut N) ∷ []) (λ (o : ℕ × ℕ). o .0) (λ n. (n, was)) (defaultDoor N was)
   pub new-player : (N taps : ℕ) (was : Player)

@@ -17,7 +17,7 @@ use Rattle.register.specs.Calls.{tapsChecks, tapsAnswer, sequenceChecks, sequen
 use Rattle.register.proofs.Judged.{accepted-exactly, generator}
 use Rattle.register.proofs.Word.{small}
 use Rattle.response.specs.Response.{response, prediction}
-use Rattle.response.specs.Calls.{sampleOut, recordingChecks, recordingOutcome, predictionChecks, predictionOutcome}
+use Rattle.response.specs.Calls.{sampleOut, recordingChecks, recordingOutcome, predictionChecks, predictionOutcome, roomedChecks, roomedOutcome}
 use Rattle.response.proofs.Register.{response-bound}
 use Rattle.response.proofs.Samples.{sample-size}
 use Rattle.demands.proofs.Checking.{answers-first, accepted-is}
@@ -34,6 +34,13 @@ pub prediction-at : (N taps : ℕ) (h out : List ℤ) → predictionOutcome N ta
 unfolding predictionOutcome
 prediction-at N taps h out e j l =
     ap (λ (o : ℕ × List ℤ). at (o .1) j) (accepted-is (predictionChecks N taps h out) (λ (o : ℕ × List ℤ). o .0) _ _ (λ n. refl) e)
+    ∙ at-put (P N) _ out j (pos 0) l
+
+pub prediction-in-room-at : (N taps : ℕ) (h out room : List ℤ) → roomedOutcome N taps h out room .0 ≡ 0
+    → (j : ℕ) → j < P N → at (roomedOutcome N taps h out room .1) j ≡ prediction (P N) (wave N taps) (at h) j
+unfolding roomedOutcome
+prediction-in-room-at N taps h out room e j l =
+    ap (λ (o : ℕ × List ℤ × List ℤ). at (o .1) j) (accepted-is (roomedChecks N taps h out room) (λ (o : ℕ × List ℤ × List ℤ). o .0) _ _ (λ n. refl) e)
     ∙ at-put (P N) _ out j (pos 0) l
 
 module _ (N taps : ℕ) (y out room : List ℤ) (tags : List ℕ) (e : recordingOutcome N taps y out room tags .0 ≡ 0) where

@@ -15,7 +15,7 @@ use Rattle.sums.proofs.Everywhere.{putAt-after}
 use Rattle.sums.proofs.Tables.{at-tail, length-table}
 use Rattle.register.specs.Register.{P}
 use Rattle.register.specs.Calls.{sequenceChecks, sequenceOutcome}
-use Rattle.response.specs.Calls.{recordingChecks, recordingOutcome, predictionChecks, predictionOutcome}
+use Rattle.response.specs.Calls.{recordingChecks, recordingOutcome, predictionChecks, predictionOutcome, roomedChecks, roomedOutcome}
 use Rattle.records.specs.Record.{standing, daysIn, base, together}
 use Rattle.records.specs.declared.Campaign.{Campaign}
 use Rattle.records.proofs.Holding.{holds-together}
@@ -65,6 +65,13 @@ pub prediction-tail : (N taps : ℕ) (h out : List ℤ) → KeepsTail (P N) out 
 unfolding predictionOutcome
 prediction-tail N taps h out =
     either-way (predictionOutcome N taps h out) (predictionChecks N taps h out) _ _ refl (λ (o : ℕ × List ℤ). KeepsTail (P N) out (o .1)) (λ n. same refl) (written _ _ _)
+
+pub prediction-in-room-tails : (N taps : ℕ) (h out room : List ℤ) → let o = roomedOutcome N taps h out room in
+    KeepsTail (P N) out (o .1) × KeepsTail (P N + 1) room (o .2)
+unfolding roomedOutcome
+prediction-in-room-tails N taps h out room =
+    either-way (roomedOutcome N taps h out room) (roomedChecks N taps h out room) _ _ refl
+    (λ (o : ℕ × List ℤ × List ℤ). KeepsTail (P N) out (o .1) × KeepsTail (P N + 1) room (o .2)) (λ n. (same refl, same refl)) (written _ _ _, written _ _ _)
 
 module _ (N taps : ℕ) (y out room : List ℤ) (tags : List ℕ) where
   abbrev HeardTails : ℕ × List ℤ × List ℤ × List ℕ → Type 0

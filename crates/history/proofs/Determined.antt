@@ -36,6 +36,8 @@ use Rattle.response.proofs.one_recording.Kinds as one-recording-kinds
 use Rattle.response.proofs.one_recording.Reads as one-recording
 use Rattle.response.proofs.predict.Kinds as predict-kinds
 use Rattle.response.proofs.predict.Reads as predict
+use Rattle.response.proofs.predict_in_room.Kinds as predict-in-room-kinds
+use Rattle.response.proofs.predict_in_room.Reads as predict-in-room
 use Rattle.campaign.proofs.starting.start.Kinds as start-kinds
 use Rattle.campaign.proofs.starting.start.Reads as start
 use Rattle.campaign.proofs.entering.enter.Kinds as enter-kinds
@@ -93,6 +95,9 @@ one-recording-determined κs a x y s t p q = p ∙ sym q
 
 pub predict-determined : Determined 2 predict-kinds.ps predict-kinds.r (ℕ × List ℤ) predict.Learnt (λ κs r s. (r, now (s .1 .1 .1 .0)))
 predict-determined κs a x y s t p q = p ∙ sym q
+
+pub predict-in-room-determined : Determined 3 predict-in-room-kinds.ps predict-in-room-kinds.r (ℕ × List ℤ × List ℤ) predict-in-room.Learnt (λ κs r s. (r, now (s .1 .1 .1 .0), now (s .1 .1 .1 .1 .0)))
+predict-in-room-determined κs a x y s t p q = p ∙ sym q
 
 -- ---- campaign
 

@@ -1,6 +1,6 @@
-// The doors of one recording and of a prediction.
+// The doors of one recording and of a prediction, with a room of its own and with one that is lent.
 ghost use mathlib.Core.Path.{_≡_};
-ghost use Rattle.response.specs.Calls.{recordingOutcome, predictionOutcome};
+ghost use Rattle.response.specs.Calls.{recordingOutcome, predictionOutcome, roomedOutcome};
 
 #[no_mangle]
 pub extern "C" fn meter_recording(
@@ -22,4 +22,18 @@ pub extern "C" fn meter_predict(order: u32, taps: u32, h: &[i32], out: &mut [i32
     ensures { λ r. ⌜ (r, now (out .exit)) ≡ predictionOutcome order taps (now (h .entry)) (now (out .entry)) ⌝ }
 {
     response::predict(order, taps, h, out)
+}
+
+#[no_mangle]
+pub extern "C" fn meter_predict_in_room(
+    order: u32,
+    taps: u32,
+    h: &[i32],
+    out: &mut [i32],
+    room: &mut [i64],
+) -> u32
+    ensures { λ r. ⌜ (r, now (out .exit), now (room .exit))
+        ≡ roomedOutcome order taps (now (h .entry)) (now (out .entry)) (now (room .entry)) ⌝ }
+{
+    response::predict_in_room(order, taps, h, out, room)
 }

@@ -12,3 +12,5 @@ pub mod Clearing
 pub mod Paper
 pub mod Order
 pub mod Lengths
+pub mod Foretelling
+pub mod Terms

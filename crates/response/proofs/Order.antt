@@ -11,7 +11,7 @@ use Rattle.sums.specs.Lists.{seek, some, table, put}
 use Rattle.sums.specs.Refusals.{numbers}
 use Rattle.register.specs.Register.{dot, step, window, bit, wave, period}
 use Rattle.response.specs.Response.{prediction}
-use Rattle.response.specs.Calls.{recordingChecks, recordingOutcome, predictionChecks, predictionOutcome}
+use Rattle.response.specs.Calls.{recordingChecks, recordingOutcome, predictionChecks, predictionOutcome, roomedChecks, roomedOutcome}
 
 -- two samples, and three with one outside the range
 abbrev two : List ℤ
@@ -26,6 +26,10 @@ recorded N taps y out room tags = recordingOutcome N taps y (replicate out (pos 
 
 abbrev foretold : ℕ → ℕ → List ℤ → ℕ → ℕ
 foretold N taps h out = predictionOutcome N taps h (replicate out (pos 9)) .0
+
+-- in a lent room
+abbrev roomed : ℕ → ℕ → List ℤ → ℕ → ℕ → ℕ
+roomed N taps h out room = roomedOutcome N taps h (replicate out (pos 9)) (replicate room (pos 9)) .0
 
 pub record Order : Type 0 where
   pub recording : (N taps : ℕ) (y out room : List ℤ) (tags : List ℕ)
@@ -47,9 +51,15 @@ pub record Order : Type 0 where
   pub foretold-7-8 : foretold 2 3 beyond 3 ≡ 7
   -- 8,388,607 in the first two places predicts minus twice that at the second
   pub foretold-8 : foretold 2 3 (pos 8388607 ∷ pos 8388607 ∷ pos 0 ∷ []) 3 ≡ 8
+  pub prediction-in-room : (N taps : ℕ) (h out room : List ℤ) → numbers (roomedChecks N taps h out room) ≡ 1 ∷ 2 ∷ 3 ∷ 4 ∷ 5 ∷ 6 ∷ 7 ∷ 8 ∷ []
+  pub roomed-4-5 : roomed 2 1 two 3 4 ≡ 4
+  pub roomed-5-6 : (roomed 2 3 two 2 4 ≡ 5) × (roomed 2 3 two 3 3 ≡ 5)
+  pub roomed-6-7 : (roomed 2 3 beyond 2 4 ≡ 6) × (roomed 2 3 beyond 3 3 ≡ 6)
+  pub roomed-7-8 : roomed 2 3 beyond 3 4 ≡ 7
+  pub roomed-8 : roomed 2 3 (pos 8388607 ∷ pos 8388607 ∷ pos 0 ∷ []) 3 4 ≡ 8
 
 pub order : Order
-unfolding recordingOutcome predictionOutcome prediction period seek some sum sign table put wave bit window step dot ones
+unfolding recordingOutcome predictionOutcome roomedOutcome prediction period seek some sum sign table put wave bit window step dot ones
 order =
     record {
       recording = λ N taps y out room tags. refl;
@@ -69,4 +79,10 @@ order =
       foretold-6-7 = refl;
       foretold-7-8 = refl;
       foretold-8 = refl;
+      prediction-in-room = λ N taps h out room. refl;
+      roomed-4-5 = refl;
+      roomed-5-6 = (refl, refl);
+      roomed-6-7 = (refl, refl);
+      roomed-7-8 = refl;
+      roomed-8 = refl;
     }

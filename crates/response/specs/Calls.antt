@@ -67,20 +67,46 @@ recordingOutcome N taps y out room tags =
 abbrev pub predicted : ℕ → ℕ → List ℤ → ℕ → ℤ
 predicted N taps h = prediction (P N) (wave N taps) (at h)
 
+-- 1 to 5: of the order, the taps and the response handed in
+abbrev pub givenChecks : ℕ → ℕ → List ℤ → List (ℕ × Bool)
+givenChecks N taps h = tapsChecks N taps ++ (5, lengthOff N h) ∷ []
+
+-- 8: a predicted sample outside the sample range
+abbrev pub eighth : ℕ → ℕ → List ℤ → List (ℕ × Bool)
+eighth N taps h = (8, someOut (P N) (predicted N taps h)) ∷ []
+
+-- all eight, by whether what is lent is too short
+abbrev pub foretellingChecks : ℕ → ℕ → List ℤ → Bool → List (ℕ × Bool)
+foretellingChecks N taps h short =
+    givenChecks N taps h ++ (6, short) ∷ (7, someOut (length h) (at h)) ∷ eighth N taps h
+
 abbrev pub predictionChecks : ℕ → ℕ → List ℤ → List ℤ → List (ℕ × Bool)
-predictionChecks N taps h out =
-    tapsChecks N taps
-    ++ (5, lengthOff N h)
-    ∷ (6, ltb (length out) (P N))
-    ∷ (7, someOut (length h) (at h))
-    ∷ (8, someOut (P N) (predicted N taps h))
-    ∷ []
+predictionChecks N taps h out = foretellingChecks N taps h (ltb (length out) (P N))
+
+-- the samples, in the place of the output's first P
+abbrev pub foretold : ℕ → ℕ → List ℤ → List ℤ → List ℤ
+foretold N taps h out = put (table (P N) (predicted N taps h)) out
 
 unfoldable pub predictionOutcome : ℕ → ℕ → List ℤ → List ℤ → ℕ × List ℤ
-predictionOutcome N taps h out =
-    outcome (predictionChecks N taps h out) (λ n. (n, out)) (0, put (table (P N) (predicted N taps h)) out)
+predictionOutcome N taps h out = outcome (predictionChecks N taps h out) (λ n. (n, out)) (0, foretold N taps h out)
 
 -- what is left of it once 1 to 7 are passed
 abbrev pub heardOutcome : ℕ → ℕ → List ℤ → List ℤ → ℕ × List ℤ
-heardOutcome N taps h out =
-    outcome ((8, someOut (P N) (predicted N taps h)) ∷ []) (λ n. (n, out)) (0, put (table (P N) (predicted N taps h)) out)
+heardOutcome N taps h out = outcome (eighth N taps h) (λ n. (n, out)) (0, foretold N taps h out)
+
+-- ---- the same in a lent room of P+1 wide numbers, 6 also where that is too short; the answer, the output and the room
+
+abbrev pub lentShort : ℕ → ℕ → ℕ → Bool
+lentShort P out room = ltb out P || ltb room (P + 1)
+
+abbrev pub roomedChecks : ℕ → ℕ → List ℤ → List ℤ → List ℤ → List (ℕ × Bool)
+roomedChecks N taps h out room = foretellingChecks N taps h (lentShort (P N) (length out) (length room))
+
+unfoldable pub roomedOutcome : ℕ → ℕ → List ℤ → List ℤ → List ℤ → ℕ × List ℤ × List ℤ
+roomedOutcome N taps h out room =
+    outcome (roomedChecks N taps h out room) (λ n. (n, out, room)) (0, foretold N taps h out, clearedWide (P N + 1) room)
+
+-- what is left of it once 1 to 7 are passed
+abbrev pub heardInRoom : ℕ → ℕ → List ℤ → List ℤ → List ℤ → ℕ × List ℤ × List ℤ
+heardInRoom N taps h out room =
+    outcome (eighth N taps h) (λ n. (n, out, room)) (0, foretold N taps h out, clearedWide (P N + 1) room)

@@ -1,7 +1,9 @@
 // One recording turned into a response, and a recording predicted from one.
 pub mod clear;
+mod direct;
 pub mod gather;
 mod hear;
+mod lent;
 mod prediction;
 pub mod range;
 mod recording;
@@ -10,6 +12,7 @@ pub mod rooms;
 pub mod spread;
 pub mod wide;
 
+pub use lent::predict_in_room;
 pub use prediction::predict;
 pub use recording::one_recording;
 

@@ -22,7 +22,7 @@ fn lay_two(room: &mut [i64], p: u32, a: i64, q: u32, b: i64)
 }
 
 // The number at a place, widened.
-fn widened(y: &[i32], j: usize) -> i64
+pub fn widened(y: &[i32], j: usize) -> i64
     requires { ⌜ j < length (now y) ⌝ }
     ensures { λ r. ⌜ r ≡ at (now (y .entry)) j ⌝ }
 {

@@ -2,7 +2,7 @@
 use borrow.Author.Needs.{needs}
 use mathlib.Core.Path.{_≡_, sym, ap, _∙_}
 use mathlib.Core.List.{List}
-use Prim.Native.Nat.{ℕ, _-_, _^_, _<_}
+use Prim.Native.Nat.{ℕ, _+_, _-_, _^_, _<_}
 use native.Mathlib.Omega.{arith}
 use lib.IntN.{ℤ, pos}
 use lib.ListN.{length}
@@ -14,8 +14,9 @@ use Rattle.register.specs.Register.{P, window, wave, tag, Accepted}
 use Rattle.register.proofs.Windows.{window-lt}
 use Rattle.register.proofs.Word.{small}
 use Rattle.response.specs.Response.{prediction}
-use Rattle.response.specs.Calls.{sampleOut, someOut}
+use Rattle.response.specs.Calls.{sampleOut, someOut, clearedWide}
 use Rattle.response.specs.Route.{Laid, spectrum}
+use Rattle.response.proofs.Clearing.{cleared-again}
 use Rattle.response.proofs.FastRoute.{tags-walk, loud, route-back}
 use Rattle.response.proofs.Samples.{quiet}
 use Rattle.response.proofs.prediction.predict_in.Statement.{statement}
@@ -94,8 +95,15 @@ tested : (c : tie.After-some-heard-out) → let a = start (c .before .before .be
     c .some-heard-out .result ≡ someOut (P (a .order)) (prediction (P (a .order)) (wave (a .order) (a .taps)) (at (a .h .now)))
 tested c = rw (start (c .before .before .before) .pre .0 .1) at (c .some-heard-out .ensures) ∙ told (c .before .before .before)
 
+-- past what was used the room is as it was
+room-kept : (c : tie.After-transform-room) → let a = start c .args in
+    clearedWide (P (a .order) + 1) (c .transform-room .last .1 .0) ≡ clearedWide (P (a .order) + 1) (a .room .now)
+room-kept c =
+    let N = start c .args .order in
+    ap (clearedWide (P N + 1)) (c .transform-room .ensures) ∙ cleared-again N (c .before .before .before .spread-back .ensures) _
+
 returns : tie.Need-returns
-returns c = simp (sym (tested (c .before)) ∙ c .if1 .taken)
+returns c = (simp (sym (tested (c .before)) ∙ c .if1 .taken), room-kept (c .before .before .before .before))
 
 write-heard-requires : tie.Need-write-heard-requires
 write-heard-requires c κs =
@@ -117,12 +125,14 @@ returns-2 c =
     let e = c .before .before .before .before in
     let t = e .before .before .before .before in
     let b = start t in
-    let a = b .args in
-    rw (rw (b .pre .0 .1) at (c .before .write-heard .ensures)
-    ∙ ap (λ l. put l (a .out .now))
-    (table-ext (P (a .order))
-    (λ j _. heard (a .order) (a .taps) (b .pre .0 .0) (a .h .now) (a .room .now) _ _ (t .before .before .before .spread-back .ensures) (b .pre .0 .3) (t .transform-room .ensures) j)))
-    (simp (sym (tested (e .before)) ∙ e .if1 .left))
+    let a = b .args in (
+      rw (rw (b .pre .0 .1) at (c .before .write-heard .ensures)
+          ∙ ap (λ l. put l (a .out .now))
+          (table-ext (P (a .order))
+          (λ j _. heard (a .order) (a .taps) (b .pre .0 .0) (a .h .now) (a .room .now) _ _ (t .before .before .before .spread-back .ensures) (b .pre .0 .3) (t .transform-room .ensures) j)))
+          (simp (sym (tested (e .before)) ∙ e .if1 .left)),
+      room-kept t,
+    )
 
 pub predict-in-spec : {M : Type 1} → statement M
 predict-in-spec =

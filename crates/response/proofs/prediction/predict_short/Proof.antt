@@ -17,7 +17,7 @@ same-length : tie.Need-same-length
 same-length c = search needs
 
 returns : tie.Need-returns
-returns c = search needs
+returns c = c .before .before .predict-in .ensures .0
 
 pub predict-short-spec : {M : Type 1} → statement M
 predict-short-spec = tie.close (tie.spec slice-aggregate-predict-in predict-in-requires same-length returns)
