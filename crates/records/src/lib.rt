@@ -29,6 +29,7 @@ pub const WITHDRAWN: u8 = 4;
 // What a slot holds in a day's place where it is free.
 pub const FREE: u16 = 0;
 
+// `slots` is how many slots it has; `days` holds each day's state, and `table` each slot's day.
 pub struct Campaign {
     pub order: u32,
     pub taps: u32,
