@@ -16,20 +16,20 @@ mod declared {
         pub fn meter_predict_in_room(
             order: u32, taps: u32, h: *const i32, h_len: usize, out: *mut i32, out_len: usize, room: *mut i64, room_len: usize,
         ) -> u32;
-        pub fn meter_start(order: u32, taps: u32, slot_count: u32, days: *mut u8, days_len: usize, slots: *mut u16, slots_len: usize,
+        pub fn meter_start(order: u32, taps: u32, capacity: u32, days: *mut u8, days_len: usize, slots: *mut u16, slots_len: usize,
             store: *mut i32, store_len: usize, sums: *mut i64, sums_len: usize) -> u32;
-        pub fn meter_enter(order: u32, taps: u32, slot_count: u32, days: *mut u8, days_len: usize, slots: *mut u16, slots_len: usize,
+        pub fn meter_enter(order: u32, taps: u32, capacity: u32, days: *mut u8, days_len: usize, slots: *mut u16, slots_len: usize,
             store: *mut i32, store_len: usize, sums: *mut i64, sums_len: usize,
             day: u32, y: *const i32, y_len: usize, state: &mut u32, value: &mut usize) -> u32;
-        pub fn meter_withdraw(order: u32, taps: u32, slot_count: u32, days: *mut u8, days_len: usize, slots: *mut u16, slots_len: usize,
+        pub fn meter_withdraw(order: u32, taps: u32, capacity: u32, days: *mut u8, days_len: usize, slots: *mut u16, slots_len: usize,
             store: *mut i32, store_len: usize, sums: *mut i64, sums_len: usize, day: u32) -> u32;
-        pub fn meter_counts(order: u32, taps: u32, slot_count: u32, days: *const u8, days_len: usize, slots: *const u16, slots_len: usize,
+        pub fn meter_counts(order: u32, taps: u32, capacity: u32, days: *const u8, days_len: usize, slots: *const u16, slots_len: usize,
             store: *const i32, store_len: usize, sums: *const i64, sums_len: usize,
             unseen: &mut u32, standing: &mut u32, overloaded: &mut u32, dead: &mut u32, withdrawn: &mut u32) -> u32;
-        pub fn meter_response(order: u32, taps: u32, slot_count: u32, days: *const u8, days_len: usize, slots: *const u16, slots_len: usize,
+        pub fn meter_response(order: u32, taps: u32, capacity: u32, days: *const u8, days_len: usize, slots: *const u16, slots_len: usize,
             store: *const i32, store_len: usize, sums: *const i64, sums_len: usize, r: *mut i64, r_len: usize, mean: *mut i32, mean_len: usize,
             room: *mut i64, room_len: usize, tags: *mut u16, tags_len: usize) -> u32;
-        pub fn meter_summary(order: u32, taps: u32, slot_count: u32, days: *const u8, days_len: usize, slots: *const u16, slots_len: usize,
+        pub fn meter_summary(order: u32, taps: u32, capacity: u32, days: *const u8, days_len: usize, slots: *const u16, slots_len: usize,
             store: *const i32, store_len: usize, sums: *const i64, sums_len: usize, room: *mut i64, room_len: usize, tags: *mut u16, tags_len: usize,
             stands: &mut u32, highest: &mut f64, lowest: &mut f64, peak: &mut f64) -> u32;
     }
@@ -121,7 +121,7 @@ fn predict_in_room(order: u32, taps: u32, h: &[i32], out: &mut [i32], room: &mut
 struct Campaign {
     order: u32,
     taps: u32,
-    slot_count: u32,
+    capacity: u32,
     days: Vec<u8>,
     slots: Vec<u16>,
     store: Vec<i32>,
@@ -132,7 +132,7 @@ macro_rules! lent {
     ($call:ident, $c:expr, $ptr:ident $(, $more:expr)*) => {
         unsafe {
             declared::$call(
-                $c.order, $c.taps, $c.slot_count, $c.days.$ptr(), $c.days.len(), $c.slots.$ptr(), $c.slots.len(),
+                $c.order, $c.taps, $c.capacity, $c.days.$ptr(), $c.days.len(), $c.slots.$ptr(), $c.slots.len(),
                 $c.store.$ptr(), $c.store.len(), $c.sums.$ptr(), $c.sums.len() $(, $more)*
             )
         }
@@ -140,15 +140,15 @@ macro_rules! lent {
 }
 
 impl Campaign {
-    fn start(order: u32, taps: u32, slot_count: u32, days: usize) -> Result<Campaign, u32> {
+    fn start(order: u32, taps: u32, capacity: u32, days: usize) -> Result<Campaign, u32> {
         let p = (1usize << order) - 1;
         let mut c = Campaign {
             order,
             taps,
-            slot_count,
+            capacity,
             days: vec![9; days],
             slots: vec![9; 64],
-            store: vec![9; slot_count as usize * p],
+            store: vec![9; capacity as usize * p],
             sums: vec![9; p],
         };
         let answer = lent!(meter_start, c, as_mut_ptr);

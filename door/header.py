@@ -12,8 +12,8 @@ sys.path.insert(0, str(root / "python"))
 from ledger import CAUSES, explain
 
 numbers = {"u8": "uint8_t", "i8": "int8_t", "u16": "uint16_t", "u32": "uint32_t", "i32": "int32_t", "i64": "int64_t", "usize": "size_t", "f64": "double"}
-# C has the record's slot count and a new player's numbers under longer names; a player's own count is lent, so it is not the first of these.
-longer = {"count: u32": "slot_count", "o: &mut u32": "player_order", "t: &mut u32": "player_taps"}
+# C has a new player's numbers under longer names.
+longer = {"o: &mut u32": "player_order", "t: &mut u32": "player_taps"}
 
 
 def crossing(parameter):

@@ -103,45 +103,45 @@ uint32_t meter_recording(uint32_t order, uint32_t taps, const int32_t *y, size_t
 uint32_t meter_predict(uint32_t order, uint32_t taps, const int32_t *h, size_t h_len, int32_t *out, size_t out_len);
 
 /* The same in a lent room of P+1 wide numbers, 6 also where that is short, with at most 2 KB of stack at every order. The room holds zeros after it.
- * Lend a room of zeros, which every call then leaves so: of any other, which a refusal has to leave as it was, 8 is found without it, in P * P
- * steps. On a PC these took 0.07 seconds at order 12 and 19 at order 16. */
+ * Lend a room of zeros, which every call then leaves so: of any other, which a refusal has to leave as it was, 8 is found without it where the sizes
+ * of h add up to more than 8388607, in P * P steps. On a PC these took 0.07 seconds at order 12 and 19 at order 16. */
 uint32_t meter_predict_in_room(uint32_t order, uint32_t taps, const int32_t *h, size_t h_len, int32_t *out, size_t out_len,
                                int64_t *room, size_t room_len);
 
-/* ---- a campaign: the record is order, taps and slot_count, which no call changes, and the two tables `days` (366) and `slots` (64).
+/* ---- a campaign: the record is order, taps and capacity, which no call changes, and the two tables `days` (366) and `slots` (64).
  * A shorter table is room too short at a start, 6 in its place; every other call refuses it with 15 before all else. The store is
- * slot_count * P samples, the sums P wide numbers. ---- */
+ * capacity * P samples, the sums P wide numbers. ---- */
 
 /* Every day unseen, every slot free, zeros in the store and the sums: 1, 2, 3, 4, 9, 6. */
-uint32_t meter_start(uint32_t order, uint32_t taps, uint32_t slot_count, uint8_t *days, size_t days_len,
+uint32_t meter_start(uint32_t order, uint32_t taps, uint32_t capacity, uint8_t *days, size_t days_len,
                      uint16_t *slots, size_t slots_len, int32_t *store, size_t store_len, int64_t *sums, size_t sums_len);
 
 /* A day's recording judged: 15, 10, 5, 7, 11, and 12 after the verdict. `state` is the state that the verdict gives the day, and `value` the slot
  * of one that stands, the first place at a rail of one that is overloaded, 0 of one that is dead. */
-uint32_t meter_enter(uint32_t order, uint32_t taps, uint32_t slot_count, uint8_t *days, size_t days_len,
+uint32_t meter_enter(uint32_t order, uint32_t taps, uint32_t capacity, uint8_t *days, size_t days_len,
                      uint16_t *slots, size_t slots_len, int32_t *store, size_t store_len, int64_t *sums, size_t sums_len,
                      uint32_t day, const int32_t *y, size_t y_len, uint32_t *state, size_t *value);
 
 /* A standing day withdrawn: 15, 10, 13. */
-uint32_t meter_withdraw(uint32_t order, uint32_t taps, uint32_t slot_count, uint8_t *days, size_t days_len,
+uint32_t meter_withdraw(uint32_t order, uint32_t taps, uint32_t capacity, uint8_t *days, size_t days_len,
                         uint16_t *slots, size_t slots_len, int32_t *store, size_t store_len, int64_t *sums, size_t sums_len,
                         uint32_t day);
 
 /* The days in each of the five states: 15. */
-uint32_t meter_counts(uint32_t order, uint32_t taps, uint32_t slot_count, const uint8_t *days, size_t days_len,
+uint32_t meter_counts(uint32_t order, uint32_t taps, uint32_t capacity, const uint8_t *days, size_t days_len,
                       const uint16_t *slots, size_t slots_len, const int32_t *store, size_t store_len,
                       const int64_t *sums, size_t sums_len,
                       uint32_t *unseen, uint32_t *standing, uint32_t *overloaded, uint32_t *dead, uint32_t *withdrawn);
 
 /* r worked from the sums, and the mean over the standing days, P places each: 15, 6, 14. The room as for one recording. */
-uint32_t meter_response(uint32_t order, uint32_t taps, uint32_t slot_count, const uint8_t *days, size_t days_len,
+uint32_t meter_response(uint32_t order, uint32_t taps, uint32_t capacity, const uint8_t *days, size_t days_len,
                         const uint16_t *slots, size_t slots_len, const int32_t *store, size_t store_len,
                         const int64_t *sums, size_t sums_len, int64_t *r, size_t r_len, int32_t *mean, size_t mean_len,
                         int64_t *room, size_t room_len, uint16_t *tags, size_t tags_len);
 
 /* The highest r, the lowest r and r at the peak, each over (P+1) times the days standing: 15, 6. Where no day stands, `stands` becomes 0 and the
  * levels and the room stay as they were; where one does, `stands` becomes 1. */
-uint32_t meter_summary(uint32_t order, uint32_t taps, uint32_t slot_count, const uint8_t *days, size_t days_len,
+uint32_t meter_summary(uint32_t order, uint32_t taps, uint32_t capacity, const uint8_t *days, size_t days_len,
                        const uint16_t *slots, size_t slots_len, const int32_t *store, size_t store_len,
                        const int64_t *sums, size_t sums_len, int64_t *room, size_t room_len, uint16_t *tags, size_t tags_len,
                        uint32_t *stands, double *highest, double *lowest, double *peak);

@@ -1,6 +1,6 @@
 """Makes a log from readable text: `python3 logs/make.py < examples/paper.txt > paper.log`.
 
-The text is that of `second text`: one record a line, `samples` any number of them; `#` begins a comment.
+The text is that of `second text`: one item a line, `samples` any number of them; `#` begins a comment.
 
     start 3 3 2
     day 1
@@ -16,7 +16,7 @@ with its number, nothing is written, and the exit status is 1; 2 where the input
 import re
 import sys
 
-from records import ASK, ENTER, OPEN, SAMPLE, START, WITHDRAW, encode
+from items import ASK, ENTER, OPEN, SAMPLE, START, WITHDRAW, encode
 
 DAY = ("day", 0, 65535)
 NUMBERS = {
@@ -43,8 +43,8 @@ def value(word, name, low, high):
     raise BadLine(f"{name} `{word}` is not a whole number from {low} to {high}")
 
 
-def records(line):
-    """The bytes of a line's records."""
+def items(line):
+    """The bytes of a line's items."""
     words = WORD.findall(line.split("#")[0])
     if not words:
         return b""
@@ -66,7 +66,7 @@ def log_from_text(text):
     log = []
     for number, line in enumerate(text.split("\n"), 1):
         try:
-            log.append(records(line))
+            log.append(items(line))
         except BadLine as fault:
             raise BadLine(f"line {number}: {fault}") from None
     return b"".join(log)

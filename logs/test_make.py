@@ -10,7 +10,7 @@ here = pathlib.Path(__file__).resolve().parent
 root = here.parent
 sys.path.insert(0, str(here))
 import make
-import records
+import items
 
 GOOD = ["start 3 3 2", "start 255 65535 255", "day 1", "samples -8388608 8388607", "samples +3 -0 00003", "enter", "withdraw 65535", "ask # why", ""]
 WORDS = "start day samples enter withdraw ask Start # 0 1 -1 + - 255 256 65536 8388608 -8388609 2147483648 1_0 1.0 0x1".split()
@@ -58,12 +58,12 @@ class Make(unittest.TestCase):
         self.assertTrue(100 < refused < 400)
 
     def test_what_is_written_is_read_back(self):
-        for record in [(1, 255, 65535, 255), (2, 0), (3, -8388608), (3, 8388607), (3, -1), (4,), (5, 65535), (6,)]:
-            log = records.encode(*record)
-            self.assertEqual(records.decode(log, 0), (list(record[1:]), len(log)))
+        for item in [(1, 255, 65535, 255), (2, 0), (3, -8388608), (3, 8388607), (3, -1), (4,), (5, 65535), (6,)]:
+            log = items.encode(*item)
+            self.assertEqual(items.decode(log, 0), (list(item[1:]), len(log)))
             if len(log) > 1:
-                self.assertIsNone(records.decode(log[:-1], 0))
-        self.assertIsNone(records.decode(b"\x07", 0))
+                self.assertIsNone(items.decode(log[:-1], 0))
+        self.assertIsNone(items.decode(b"\x07", 0))
 
 
 if __name__ == "__main__":

@@ -6,7 +6,7 @@ heard = meter.predict(h, order)
 louder = [3 * v for v in heard]
 hit = heard[:4] + [8388607] + heard[5:]
 nights = [(1, heard), (2, hit), (3, [5] * 7), (4, hit), (5, heard[:6]), (2, louder), (6, heard)]
-mean, not_in_mean = meter.trend(nights, order, slots=2)
+mean, not_in_mean = meter.trend(nights, order, capacity=2)
 for day, reason in not_in_mean.items():
     print(f"not in the mean: day {day}, {reason}")
 print("mean", mean)

@@ -40,9 +40,9 @@ def refusal(number, detail=None):
     return f"{words} ({detail})" if detail else words
 
 
-def details(period, given, slots=None):
+def details(period, given, capacity=None):
     """The numbers at hand of a recording given, by the refusal whose words leave them unsaid."""
-    return {5: f"P is {period}, {given} given", 12: f"C is {slots}"}
+    return {5: f"P is {period}, {given} given", 12: f"C is {capacity}"}
 
 
 class Note(NamedTuple):

@@ -242,8 +242,8 @@ def predict(h, order, taps=None):
 class Campaign:
     """A year of nights: each recording is judged, and what is kept is averaged. Every call that names a day is noted in `ledger`."""
 
-    def __init__(self, order, taps=None, slots=SLOTS):
-        self._numbers = (*_register(order, taps), _number(slots, "slots"))
+    def __init__(self, order, taps=None, capacity=SLOTS):
+        self._numbers = (*_register(order, taps), _number(capacity, "capacity"))
         p, room = _period(self.order), max(1, min(self._numbers[2], SLOTS))
         self._tables = (ctypes.c_uint8 * DAYS)(), (ctypes.c_uint16 * SLOTS)()
         self._lent = (_i32 * (room * p))(), (ctypes.c_int64 * p)()
@@ -319,10 +319,10 @@ class Campaign:
         return Levels(*(x.value for x in levels)) if stands.value else None
 
 
-def trend(nights, order, taps=None, slots=SLOTS):
+def trend(nights, order, taps=None, capacity=SLOTS):
     """From a list of nights, (day, samples) each, to the mean response of those that stand, None where none does, and the days not in it, as
     `not_in_mean()` gives them once all are entered."""
-    campaign = Campaign(order, taps, slots)
+    campaign = Campaign(order, taps, capacity)
     for day, y in nights:
         with contextlib.suppress(Refused):
             campaign.enter(day, y)

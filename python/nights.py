@@ -4,7 +4,7 @@
     python3 python/nights.py year.log year.lines
 
 It reads the log's bytes and the lines that the log program printed for them (document 01, "The log program"), and calls nothing of the core.
-Each line has to belong to its record, and each `response` line has to count the days as the lines before it do; where one does not it says so on
+Each line has to belong to its item, and each `response` line has to count the days as the lines before it do; where one does not it says so on
 standard error, prints no table and ends with 1. The values r and mean are not looked at.
 """
 
@@ -15,7 +15,7 @@ import sys
 from ledger import STATES, Ledger, details, refusal
 
 sys.path.append(str(pathlib.Path(__file__).resolve().parent.parent / "logs"))
-from records import ASK, ENTER, OPEN, SAMPLE, START, WITHDRAW, decode
+from items import ASK, ENTER, OPEN, SAMPLE, START, WITHDRAW, decode
 
 RAILS = (-8388608, 8388607)
 VERDICTS = {"kept": "standing", "overload": "overloaded", "dead": "dead"}
@@ -33,7 +33,7 @@ class Reader:
         self.log, self.at = log, 0
         self.lines, self.taken = lines, 0
         self.ledger, self.responses, self.counted = Ledger(), 0, 0
-        self.period = self.slots = self.day = self.samples = None
+        self.period = self.capacity = self.day = self.samples = None
         self.stopped = ""
         self.takes = {START: self.start, OPEN: self.open, SAMPLE: self.sample, ENTER: self.enter, WITHDRAW: self.withdraw, ASK: self.ask}
 
@@ -59,11 +59,11 @@ class Reader:
     def hold_standing(self, holds, day):
         self.hold(holds, f"day {day} {'stands' if self.stands(day) else 'does not stand'} there")
 
-    # ---- the records
+    # ---- the items
 
-    def start(self, order, taps, slots):
+    def start(self, order, taps, capacity):
         (answer,) = self.line("start", 1)
-        self.period, self.slots = (1 << order) - 1, slots
+        self.period, self.capacity = (1 << order) - 1, capacity
         if answer != 0:
             self.stopped = f"the start was refused {refusal(answer)}; no night was read"
 
@@ -79,7 +79,7 @@ class Reader:
         self.hold((answer == 0) == (verdict in VERDICTS), "the answer and the verdict do not go together")
         self.hold_standing(answer != (0 if self.stands(day) else DAY_STANDING), day)
         if answer != 0:
-            detail = details(self.period, len(self.samples), self.slots).get(answer)
+            detail = details(self.period, len(self.samples), self.capacity).get(answer)
             self.ledger.refused("enter", day, refusal(answer, detail))
             return
         place = next((k for k, value in enumerate(self.samples) if value in RAILS), None)
@@ -124,16 +124,16 @@ class Reader:
     def read(self):
         """Reads both to their ends."""
         while self.at < len(self.log) and not self.stopped:
-            kind, record = self.log[self.at], decode(self.log, self.at)
-            if kind not in self.allowed() or record is None:
+            kind, item = self.log[self.at], decode(self.log, self.at)
+            if kind not in self.allowed() or item is None:
                 self.bad()
             else:
-                self.takes[kind](*record[0])
-                self.at = record[1]
+                self.takes[kind](*item[0])
+                self.at = item[1]
         if not self.stopped and (self.day is not None or not self.log):
             self.bad()
         if self.taken < len(self.lines):
-            raise Fault(f"line {self.taken + 1}, `{self.lines[self.taken]}`: the log has no record for it")
+            raise Fault(f"line {self.taken + 1}, `{self.lines[self.taken]}`: the log has no item for it")
 
     # ---- the table
 

@@ -52,7 +52,7 @@ class Calls(Case):
         self.refused(8, meter.predict, [8388607, 8388607, 0, 0, 0, 0, 0], 3)
 
     def test_campaign(self):
-        c = meter.Campaign(3, slots=2)
+        c = meter.Campaign(3, capacity=2)
         self.assertIsNone(c.summary())
         self.refused(14, c.response)
         self.assertEqual(c.enter(1, Y), ("standing", 0))
@@ -80,7 +80,7 @@ class Refusals(Case):
             self.refused(5, meter.recording, [value] * 6, 3)
             self.refused(7, meter.recording, Y[:6] + [value], 3)
             self.refused(5, meter.predict, [value] * 8, 3)
-            c = meter.Campaign(3, slots=1)
+            c = meter.Campaign(3, capacity=1)
             c.enter(1, Y)
             self.refused(10, c.enter, 0, [value] * 7)
             self.refused(5, c.enter, 2, [value] * 8)
@@ -107,7 +107,7 @@ class Refusals(Case):
         for name, call in {
             "order": lambda: meter.recording(Y, "3"),
             "taps": lambda: meter.sequence(3, 3.0),
-            "slots": lambda: meter.Campaign(3, 3, "2"),
+            "capacity": lambda: meter.Campaign(3, 3, "2"),
             "n": lambda: meter.Player(3).play(None),
             "y": lambda: c.enter(1, 5),
             "a sample of y": lambda: c.enter(1, Y[:6] + [1.5]),
@@ -130,7 +130,7 @@ class Nights(Case):
         self.assertEqual(meter.trend([(1, HIT), (1, Y)], 3), ([2, 0, -1, 0, 0, 0, 0], {}))
 
     def test_every_day_named_that_does_not_stand_is_listed(self):
-        c = meter.Campaign(3, slots=1)
+        c = meter.Campaign(3, capacity=1)
         self.assertEqual(c.not_in_mean(), {})
         c.enter(200, Y)
         c.enter(6, [5] * 7)
@@ -164,7 +164,7 @@ class Nights(Case):
         draw = random.Random(1)
         recordings = [Y, [5] * 7, HIT, Y[:6], [BEYOND] * 7]
         for _ in range(200):
-            c, named = meter.Campaign(3, slots=3), set()
+            c, named = meter.Campaign(3, capacity=3), set()
             for _ in range(40):
                 day = draw.choice([0, 1, 2, 3, 4, 5, 6, 366, 367])
                 named.add(day)

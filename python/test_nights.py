@@ -146,7 +146,7 @@ class OtherLines(unittest.TestCase):
             (night, "enter 1 0 overload\n", "the first sample at a rail: none"),
             (hit, kept, "the first sample at a rail: 3"),
             (night + "enter\n", kept + "bad 5\n", "the log is bad at byte 37"),
-            (night, kept + "ask\n", "the log has no record for it"),
+            (night, kept + "ask\n", "the log has no item for it"),
         ]:
             with self.assertRaisesRegex(nights.Fault, f": {why}$", msg=lines):
                 table(make.log_from_text("start 3 3 2\n" + text), b"start 0\n" + lines.encode())

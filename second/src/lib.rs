@@ -23,7 +23,7 @@ pub mod response;
 pub mod rng;
 pub mod room;
 pub mod run;
-pub mod samples;
+pub mod signs;
 pub mod text;
 pub mod year;
 pub mod year_calls;

@@ -2,7 +2,7 @@
 
 use second::compare::compare;
 use second::feeding::Other;
-use second::{door, log, make, numbers, order, samples, text, year};
+use second::{door, log, make, numbers, order, signs, text, year};
 use std::io::{self, BufRead, Read, Write};
 use std::process::ExitCode;
 use std::{env, fs};
@@ -16,7 +16,7 @@ const USAGE: &str = "usage:
   second numbers                                      the numbers by direct formulas
   second door SEED COUNT                              random calls of the C door, by our own
   second order                                        two checks at once, at every place of the order of checks
-  second samples                                      a player's runs, from the sequence
+  second signs                                        a player's runs, from the sequence
   second year                                         the year's two campaigns, call by call";
 
 /// 0 done, 1 differences found or a bad line of text, 2 not usable as asked.
@@ -51,7 +51,7 @@ fn run(words: &[String]) -> Result<ExitCode, String> {
         ["text"] => turn_text(),
         ["numbers"] => numbers::print(&mut io::stdout()).map(|()| ExitCode::SUCCESS),
         ["order"] => order::print(&mut io::stdout()).map(|()| ExitCode::SUCCESS),
-        ["samples"] => samples::print(&mut io::stdout()).map(|()| ExitCode::SUCCESS),
+        ["signs"] => signs::print(&mut io::stdout()).map(|()| ExitCode::SUCCESS),
         ["door", seed, count] => door::print(
             whole(seed)?,
             whole(count)?,

@@ -35,39 +35,39 @@ in-day d h = let two = or-false (ltb d 1) (ltb 366 d) h in record { first = ltb-
 
 module _ (c : Campaign) (f : Filed c) where
   -- where fewer than C days stand, a slot is free
-  pub lowest-free : (daysIn c standing ≡ c .slots → ⊥) → (lowestFree c < c .slots) × (slot c (lowestFree c) ≡ 0)
-  lowest-free n = elim (decLt (lowestFree c) (c .slots)) [
+  pub lowest-free : (daysIn c standing ≡ c .capacity → ⊥) → (lowestFree c < c .capacity) × (slot c (lowestFree c) ≡ 0)
+  lowest-free n = elim (decLt (lowestFree c) (c .capacity)) [
     | yes l ↦ (l, eqb-true (slot c (lowestFree c)) 0 (g .here (omega arith)))
     | no l ↦ absurd (n (full (omega (arith, g .to))))
   ]
     where
-      g : First (free c) (c .slots) 0 (lowestFree c)
-      g = seek-first (free c) (c .slots) 0
+      g : First (free c) (c .capacity) 0 (lowestFree c)
+      g = seek-first (free c) (c .capacity) 0
 
-      full : lowestFree c ≡ c .slots → daysIn c standing ≡ c .slots
+      full : lowestFree c ≡ c .capacity → daysIn c standing ≡ c .capacity
       full e =
           ap natAbs
           (sym (used-standing c f)
-          ∙ sum-ext (c .slots) (λ s l. ap (λ b. cond b (pos 0) (pos 1)) (g .before s (omega arith) (omega arith)))
-          ∙ sum-one (c .slots))
+          ∙ sum-ext (c .capacity) (λ s l. ap (λ b. cond b (pos 0) (pos 1)) (g .before s (omega arith) (omega arith)))
+          ∙ sum-one (c .capacity))
 
   -- a standing day has its slot
-  pub slot-of-day : (d : ℕ) → Day d → state c d ≡ standing → (slotOfDay c d < c .slots) × (slot c (slotOfDay c d) ≡ d)
-  slot-of-day d r e = elim (decLt (slotOfDay c d) (c .slots)) [
+  pub slot-of-day : (d : ℕ) → Day d → state c d ≡ standing → (slotOfDay c d < c .capacity) × (slot c (slotOfDay c d) ≡ d)
+  slot-of-day d r e = elim (decLt (slotOfDay c d) (c .capacity)) [
     | yes l ↦ (l, eqb-true (slot c (slotOfDay c d)) d (g .here (omega arith)))
     | no l ↦ absurd (none (omega (arith, g .to)))
   ]
     where
-      g : First (λ s. eqb (slot c s) d) (c .slots) 0 (slotOfDay c d)
-      g = seek-first (λ s. eqb (slot c s) d) (c .slots) 0
+      g : First (λ s. eqb (slot c s) d) (c .capacity) 0 (slotOfDay c d)
+      g = seek-first (λ s. eqb (slot c s) d) (c .capacity) 0
 
-      one : many (c .slots) (λ s. eqb (slot c s) d) ≡ 1
+      one : many (c .capacity) (λ s. eqb (slot c s) d) ≡ 1
       one =
           let x : d - 1 + 1 ≡ d = omega (arith, r .first) in
-          ap (λ n. many (c .slots) (λ s. eqb (slot c s) n)) (sym x) ∙ f .one (d - 1) (omega (arith, r .first, r .last)) (ap (state c) x ∙ e)
+          ap (λ n. many (c .capacity) (λ s. eqb (slot c s) n)) (sym x) ∙ f .one (d - 1) (omega (arith, r .first, r .last)) (ap (state c) x ∙ e)
 
-      none : slotOfDay c d ≡ c .slots → ⊥
-      none q = omega (arith, one, many-none (c .slots) (λ s. eqb (slot c s) d) (λ s l. g .before s (omega arith) (omega arith)))
+      none : slotOfDay c d ≡ c .capacity → ⊥
+      none q = omega (arith, one, many-none (c .capacity) (λ s. eqb (slot c s) d) (λ s l. g .before s (omega arith) (omega arith)))
 
 -- ---- a record that holds together, and one of its slots
 
@@ -75,7 +75,7 @@ module _ {c : Campaign} {store sums : List ℤ} (t : Together c store sums) wher
   pub period-small : P (c .order) ≤ 65535
   period-small = omega (arith, small (t .filed .accepted .shaped .most))
 
-  pub slot-fits : (s : ℕ) → s < c .slots → s * P (c .order) + P (c .order) ≤ length store
+  pub slot-fits : (s : ℕ) → s < c .capacity → s * P (c .order) + P (c .order) ≤ length store
   slot-fits s l = omega (arith, mul-le-mul-right (P (c .order)) l, suc-mul s (P (c .order)), t .store-long)
 
   pub sums-small : (j : ℕ) → j < P (c .order) → natAbs (at sums j) ≤ 2 ^ 40
@@ -109,7 +109,7 @@ begins N taps C store sums z =
 pub record Withdraws (c : Campaign) (store sums : List ℤ) (d : ℕ) : Type 0 where
   pub whole : Together c store sums
   pub day : Day d
-  pub inside : slotOfDay c d < c .slots
+  pub inside : slotOfDay c d < c .capacity
 
 pub withdraws : (c : Campaign) (store sums : List ℤ) (d : ℕ) → first (withdrawChecks c store sums d) ≡ 0 → Withdraws c store sums d
 withdraws c store sums d z =

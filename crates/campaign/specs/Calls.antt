@@ -4,14 +4,15 @@ use mathlib.Core.List.{List, [], _∷_, _++_}
 use mathlib.Core.Bool.{Bool, cond, not, _||_}
 use Prim.Native.Nat.{ℕ, _*_}
 use lib.Dec.{eqb, ltb}
-use lib.IntN.{ℤ, pos, negsuc, _+ℤ_, _-ℤ_}
+use lib.IntN.{ℤ, pos, _+ℤ_, _-ℤ_}
 use lib.ListN.{length}
 use Rattle.sums.specs.Lists.{at, table, put, putAt, seek, every}
+use Rattle.sums.specs.Equal.{eqZ}
 use Rattle.sums.specs.Refusals.{outcome, Meaning, accepts, refuses}
 use Rattle.register.specs.Register.{P}
 use Rattle.register.specs.Calls.{tapsChecks}
-use Rattle.response.specs.Calls.{lengthOff, someOut, clearedWide}
-use Rattle.records.specs.Record.{standing, overloaded, dead, withdrawn, stands, daysIn, slot, free, base, sample, eqZ, apart, fresh, marked, filed}
+use Rattle.samples.specs.Samples.{lengthOff, someOut, rail, clearedWide}
+use Rattle.records.specs.Record.{standing, overloaded, dead, withdrawn, stands, daysIn, slot, free, base, sample, apart, fresh, marked, filed}
 use Rattle.records.specs.declared.Campaign.{Campaign}
 use Rattle.campaign.specs.declared.Started.{Started}
 use Rattle.campaign.specs.declared.Rail.{Rail}
@@ -49,12 +50,9 @@ startOutcome c N taps C store sums =
 
 abbrev pub enterChecks : Campaign → List ℤ → List ℤ → ℕ → List ℤ → List (ℕ × Bool)
 enterChecks c store sums d y =
-    (15, apart c store sums) ∷ (10, dayOut d) ∷ (5, lengthOff (c .order) y) ∷ (7, someOut (length y) (at y)) ∷ (11, stands c d) ∷ []
+    (15, apart c store sums) ∷ (10, dayOut d) ∷ (5, lengthOff (P (c .order)) y) ∷ (7, someOut (length y) (at y)) ∷ (11, stands c d) ∷ []
 
 -- some sample is -8,388,608 or 8,388,607: the first such place, or the length where there is none
-abbrev pub rail : ℤ → Bool
-rail z = eqZ z (negsuc 8388607) || eqZ z (pos 8388607)
-
 abbrev pub railPlace : List ℤ → ℕ
 railPlace y = seek (λ j. rail (at y j)) (length y) 0
 
@@ -70,7 +68,7 @@ entered c d v = record { entry = record { day = d; verdict = v }; campaign = c }
 
 -- the lowest-numbered free slot
 abbrev pub lowestFree : Campaign → ℕ
-lowestFree c = seek (free c) (c .slots) 0
+lowestFree c = seek (free c) (c .capacity) 0
 
 -- kept: it goes to that slot and is added to the sums
 abbrev pub keptOutcome : Campaign → List ℤ → List ℤ → ℕ → List ℤ → Entered × List ℤ × List ℤ
@@ -83,7 +81,7 @@ keptOutcome c store sums d y = (
 -- 12, after the verdict: C days stand
 abbrev pub stayedOutcome : Campaign → List ℤ → List ℤ → ℕ → List ℤ → Entered × List ℤ × List ℤ
 stayedOutcome c store sums d y =
-    outcome ((12, eqb (daysIn c standing) (c .slots)) ∷ []) (λ n. (entered c d (verdict.Refused n), store, sums)) (keptOutcome c store sums d y)
+    outcome ((12, eqb (daysIn c standing) (c .capacity)) ∷ []) (λ n. (entered c d (verdict.Refused n), store, sums)) (keptOutcome c store sums d y)
 
 -- the verdict
 abbrev pub judgedOutcome : Campaign → List ℤ → List ℤ → ℕ → List ℤ → Entered × List ℤ × List ℤ
@@ -101,7 +99,7 @@ abbrev pub withdrawChecks : Campaign → List ℤ → List ℤ → ℕ → List 
 withdrawChecks c store sums d = (15, apart c store sums) ∷ (10, dayOut d) ∷ (13, not (stands c d)) ∷ []
 
 abbrev pub slotOfDay : Campaign → ℕ → ℕ
-slotOfDay c d = seek (λ s. eqb (slot c s) d) (c .slots) 0
+slotOfDay c d = seek (λ s. eqb (slot c s) d) (c .capacity) 0
 
 -- its samples leave the sums, its slot becomes free and holds zeros
 abbrev pub withdrawnOutcome : Campaign → List ℤ → List ℤ → ℕ → Withdrawn × List ℤ × List ℤ

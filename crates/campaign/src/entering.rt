@@ -12,14 +12,14 @@ use records::OVERLOADED;
 use records::STANDING;
 use records::filing::file;
 use records::filing::mark;
-use records::reread::holds;
 use records::slots::fill_slot;
 use records::tables::day_stands;
 use records::tables::days_in;
 use records::tables::find;
 use records::tables::outside;
+use records::together::holds;
 use register::shift::full_period;
-use response::range::some_out;
+use samples::range::some_out;
 ghost use mathlib.Core.Path.{_≡_};
 ghost use Rattle.sums.specs.Refusals.{first};
 ghost use Rattle.campaign.specs.Calls.{enterChecks, stayedOutcome, judgedOutcome, enterOutcome};
@@ -62,13 +62,13 @@ fn keep(c: Campaign, store: &mut [i32], sums: &mut [i64], d: u32, y: &[i32]) -> 
     requires { ⌜ first (enterChecks c (now store) (now sums) d (now y)) ≡ 0 ⌝ }
     ensures { λ r. ⌜ (r, now (store .exit), now (sums .exit)) ≡ stayedOutcome c (now (store .entry)) (now (sums .entry)) d (now (y .entry)) ⌝ }
 {
-    let slots = c.slots as usize;
+    let capacity = c.capacity as usize;
     let days = c.days;
-    if days_in(&days, STANDING) as usize == slots {
+    if days_in(&days, STANDING) as usize == capacity {
         return entered(c, d, Verdict::Refused(12));
     }
-    let table = c.table;
-    let s = find(&table, slots, 0);
+    let slots = c.slots;
+    let s = find(&slots, capacity, 0);
     fill_slot(s, y, store, sums);
     entered(file(c, d, STANDING, s, d as u16), d, Verdict::Kept(s))
 }

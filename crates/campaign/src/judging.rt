@@ -1,14 +1,8 @@
 // What a recording is: at a rail, still, or neither.
 use crate::Rail;
+use samples::range::at_rail;
 ghost use mathlib.Core.Path.{_≡_};
-ghost use Rattle.campaign.specs.Calls.{rail, railOf, still};
-
-// Whether a sample is at a rail.
-fn at_rail(x: i32) -> bool
-    ensures { λ r. ⌜ r ≡ rail x ⌝ }
-{
-    x == -8388608 || x == 8388607
-}
+ghost use Rattle.campaign.specs.Calls.{railOf, still};
 
 // The first place at a rail, or none.
 pub fn first_rail(y: &[i32]) -> Rail

@@ -3,11 +3,11 @@ use crate::Started;
 use records::Campaign;
 use records::MOST_SLOTS;
 use records::filing::blank;
-use records::slots::clear_samples;
 use records::tables::outside;
 use register::shift::full_period;
 use register::taps::check_taps;
-use response::clear::clear_wide;
+use samples::clearing::clear_samples;
+use samples::clearing::clear_wide;
 ghost use mathlib.Core.Path.{_≡_};
 ghost use mathlib.Core.Bool.{_||_};
 ghost use mathlib.Core.List.{List, [], _∷_, _++_};
@@ -19,25 +19,25 @@ ghost use Rattle.register.specs.Calls.{tapsChecks};
 ghost use Rattle.campaign.specs.Calls.{slotsOut, startOutcome};
 
 // Whether the store is short of C·P samples, or the sums of P.
-fn memory_short(slots: usize, period: usize, store: usize, sums: usize) -> bool
-    requires { ⌜ (slots ≤ 64) × (period ≤ 65535) ⌝ }
-    ensures { λ r. ⌜ r ≡ ltb store (slots * period) || ltb sums period ⌝ }
+fn memory_short(capacity: usize, period: usize, store: usize, sums: usize) -> bool
+    requires { ⌜ (capacity ≤ 64) × (period ≤ 65535) ⌝ }
+    ensures { λ r. ⌜ r ≡ ltb store (capacity * period) || ltb sums period ⌝ }
 {
-    store < slots * period || sums < period
+    store < capacity * period || sums < period
 }
 
 // The first of 1, 2, 3, 4, 9, 6 that refuses a start with so much memory, and 0 where none does.
-pub fn start_refusal(order: u32, taps: u32, slots: u32, store: usize, sums: usize) -> u32
-    ensures { λ n. ⌜ n ≡ first (tapsChecks order taps ++ (9, slotsOut slots) ∷ (6, ltb store (slots * P order) || ltb sums (P order)) ∷ []) ⌝ }
+pub fn start_refusal(order: u32, taps: u32, capacity: u32, store: usize, sums: usize) -> u32
+    ensures { λ n. ⌜ n ≡ first (tapsChecks order taps ++ (9, slotsOut capacity) ∷ (6, ltb store (capacity * P order) || ltb sums (P order)) ∷ []) ⌝ }
 {
     let refusal = check_taps(order, taps);
     if refusal != 0 {
         return refusal;
     }
-    if outside(slots, MOST_SLOTS) {
+    if outside(capacity, MOST_SLOTS) {
         return 9;
     }
-    if memory_short(slots as usize, full_period(order) as usize, store, sums) {
+    if memory_short(capacity as usize, full_period(order) as usize, store, sums) {
         return 6;
     }
     0
@@ -48,13 +48,13 @@ pub fn start(
     c: Campaign,
     order: u32,
     taps: u32,
-    slots: u32,
+    capacity: u32,
     store: &mut [i32],
     sums: &mut [i64],
 ) -> Started
-    ensures { λ r. ⌜ (r, now (store .exit), now (sums .exit)) ≡ startOutcome c order taps slots (now (store .entry)) (now (sums .entry)) ⌝ }
+    ensures { λ r. ⌜ (r, now (store .exit), now (sums .exit)) ≡ startOutcome c order taps capacity (now (store .entry)) (now (sums .entry)) ⌝ }
 {
-    let refusal = start_refusal(order, taps, slots, store.len(), sums.len());
+    let refusal = start_refusal(order, taps, capacity, store.len(), sums.len());
     if refusal != 0 {
         return Started {
             answer: refusal,
@@ -62,10 +62,10 @@ pub fn start(
         };
     }
     let period = full_period(order) as usize;
-    clear_samples(store, slots as usize * period);
+    clear_samples(store, capacity as usize * period);
     clear_wide(sums, period);
     Started {
         answer: 0,
-        campaign: blank(order, taps, slots),
+        campaign: blank(order, taps, capacity),
     }
 }

@@ -5,11 +5,11 @@ use records::FREE;
 use records::LAST_DAY;
 use records::WITHDRAWN;
 use records::filing::file;
-use records::reread::holds;
 use records::slots::empty_slot;
 use records::tables::day_stands;
 use records::tables::find;
 use records::tables::outside;
+use records::together::holds;
 use register::shift::full_period;
 ghost use mathlib.Core.Path.{_≡_};
 ghost use Rattle.sums.specs.Refusals.{first};
@@ -43,9 +43,9 @@ pub fn withdraw(c: Campaign, store: &mut [i32], sums: &mut [i64], d: u32) -> Wit
         };
     }
     let order = c.order;
-    let slots = c.slots as usize;
-    let table = c.table;
-    let s = find(&table, slots, d as u16);
+    let capacity = c.capacity as usize;
+    let slots = c.slots;
+    let s = find(&slots, capacity, d as u16);
     empty_slot(s, full_period(order) as usize, store, sums);
     Withdrawn {
         answer: 0,

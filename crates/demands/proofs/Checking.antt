@@ -76,16 +76,16 @@ module _ (c : Campaign) (store sums : List ℤ) (d : ℕ) (y : List ℤ) where
   back n = (entered c d (verdict.Refused n), store, sums)
 
   pub entry-answers-first : number (enterOutcome c store sums d y)
-      ≡ first (enterChecks c store sums d y ++ (12, (not (ltb (railPlace y) (length y)) && not (still y)) && eqb (daysIn c standing) (c .slots)) ∷ [])
+      ≡ first (enterChecks c store sums d y ++ (12, (not (ltb (railPlace y) (length y)) && not (still y)) && eqb (daysIn c standing) (c .capacity)) ∷ [])
   unfolding enterOutcome
   entry-answers-first =
-      judged-first number back _ _ _ (λ n. refl) refl refl refl (enterChecks c store sums d y) tt 11 (ltb (railPlace y) (length y)) (still y) (eqb (daysIn c standing) (c .slots))
+      judged-first number back _ _ _ (λ n. refl) refl refl refl (enterChecks c store sums d y) tt 11 (ltb (railPlace y) (length y)) (still y) (eqb (daysIn c standing) (c .capacity))
 
   pub entry-refused-same : (number (enterOutcome c store sums d y) ≡ 0 → ⊥) → enterOutcome c store sums d y ≡ back (number (enterOutcome c store sums d y))
   unfolding enterOutcome
   entry-refused-same =
       judged-same number back _ _ _ (λ n. refl) refl refl refl (first (enterChecks c store sums d y)) (ltb (railPlace y) (length y)) (still y)
-      (first ((12, eqb (daysIn c standing) (c .slots)) ∷ []))
+      (first ((12, eqb (daysIn c standing) (c .capacity)) ∷ []))
 
 -- ---- any call of a run
 

@@ -32,7 +32,8 @@ use Rattle.player.specs.declared.Tick.the-variants as tick
 use Rattle.player.specs.declared.Stepped.{Stepped}
 use Rattle.player.specs.declared.Played.{Played}
 use Rattle.response.specs.Response as formula
-use Rattle.response.specs.Calls.{recordingChecks, recordingOutcome, predictionChecks, predictionOutcome, roomedChecks, roomedOutcome}
+use Rattle.response.specs.Calls.{recordingChecks, recordingOutcome}
+use Rattle.prediction.specs.Calls.{predictionChecks, predictionOutcome, roomedChecks, roomedOutcome}
 use Rattle.rounding.specs.Rounding.{nearest}
 use Rattle.records.specs.Record.{unseen, standing, overloaded, dead, withdrawn, state, stands, daysIn, together, apart, fresh, filed}
 use Rattle.records.proofs.Refiling.{Day}
@@ -71,7 +72,7 @@ pub record Checked {A : Type 0} (order : List ℕ) (checks : List (ℕ × Bool))
 abbrev pub enterAll : Campaign → List ℤ → List ℤ → ℕ → List ℤ → List (ℕ × Bool)
 enterAll c store sums d y =
     enterChecks c store sums d y
-    ++ (12, (not (ltb (railPlace y) (length y)) && not (still y)) && eqb (daysIn c standing) (c .slots))
+    ++ (12, (not (ltb (railPlace y) (length y)) && not (still y)) && eqb (daysIn c standing) (c .capacity))
     ∷ []
 
 pub record Refusals : Type 0 where
@@ -121,9 +122,9 @@ pub record Tails : Type 0 where
   pub start : (c : Campaign) (N taps C : ℕ) (store sums : List ℤ) → let o = startOutcome c N taps C store sums in
       KeepsTail (C * P N) store (o .1) × KeepsTail (P N) sums (o .2)
   pub enter : (c : Campaign) (store sums : List ℤ) (d : ℕ) (y : List ℤ) → let o = enterOutcome c store sums d y in
-      KeepsTail (c .slots * P (c .order)) store (o .1) × KeepsTail (P (c .order)) sums (o .2)
+      KeepsTail (c .capacity * P (c .order)) store (o .1) × KeepsTail (P (c .order)) sums (o .2)
   pub withdraw : (c : Campaign) (store sums : List ℤ) (d : ℕ) → let o = withdrawOutcome c store sums d in
-      KeepsTail (c .slots * P (c .order)) store (o .1) × KeepsTail (P (c .order)) sums (o .2)
+      KeepsTail (c .capacity * P (c .order)) store (o .1) × KeepsTail (P (c .order)) sums (o .2)
   pub response : (c : Campaign) (store sums r mean room : List ℤ) (tags : List ℕ) → let o = responseOutcome c store sums r mean room tags in
       KeepsTail (P (c .order)) r (o .1) × KeepsTail (P (c .order)) mean (o .2) × KeepsTail (P (c .order) + 1) room (o .3)
       × KeepsTail (2 * P (c .order)) tags (o .4)
@@ -212,7 +213,7 @@ demand-2 =
 -- answer at every place is exactly P + 1 times the sum of those responses there."
 --
 -- The calls `cs`, the latest first, lead from w₀, a record and memory that may hold anything, to w. A start may come again: refused, the campaign goes
--- on; accepted, it names every day, and a new campaign begins. The order, taps and slot count are those of the last accepted start (`begun`).
+-- on; accepted, it names every day, and a new campaign begins. The order, taps and capacity are those of the last accepted start (`begun`).
 
 pub record Said (w₀ : World) (cs : List Call) (w : World) : Type 0 where
   pub each-day : (d : ℕ) → 1 ≤ d → d ≤ 366 → state (w .campaign) d ≡ made w₀ cs d
@@ -229,7 +230,7 @@ pub record Said (w₀ : World) (cs : List Call) (w : World) : Type 0 where
   -- and what document 01 adds
   pub order : w .campaign .order ≡ begun w₀ cs .order
   pub taps : w .campaign .taps ≡ begun w₀ cs .taps
-  pub slots : w .campaign .slots ≡ begun w₀ cs .slots
+  pub capacity : w .campaign .capacity ≡ begun w₀ cs .capacity
   pub holds : together (w .campaign) (w .store) (w .sums) ≡ true
   pub no-fifteen : (call : Call) → answer w call ≡ 15 → ⊥
   pub refused : (call : Call) → (answer w call ≡ 0 → ⊥) → after w call ≡ w
@@ -255,7 +256,7 @@ said w₀ cs u =
           (record { r-long = l1; mean-long = l2; room-long = l3; tags-long = l4 }));
       order = every-run.same-order w₀ cs u .0;
       taps = every-run.same-order w₀ cs u .1;
-      slots = every-run.same-order w₀ cs u .2;
+      capacity = every-run.same-order w₀ cs u .2;
       holds = every-run.holds w₀ cs u;
       no-fifteen = every-run.no-fifteen w₀ cs u;
       refused = refused-leaves (run w₀ cs);
@@ -275,7 +276,7 @@ demand-3 w₀ N taps C e cs = said _ _ (from-start w₀ N taps C e cs)
 
 pub record TakenBack (w₀ : World) (cs : List Call) (d : ℕ) (y : List ℤ) : Type 0 where
   pub at-once : let w = run w₀ (call.withdraw d ∷ call.enter d y ∷ cs) in
-      (w .store ≡ run w₀ cs .store) × (w .sums ≡ run w₀ cs .sums) × (w .campaign .table ≡ run w₀ cs .campaign .table)
+      (w .store ≡ run w₀ cs .store) × (w .sums ≡ run w₀ cs .sums) × (w .campaign .slots ≡ run w₀ cs .campaign .slots)
   pub as-if : (between : List Call) → Elsewhere w₀ d (call.enter d y ∷ cs) between
       → let with-it = run w₀ (call.withdraw d ∷ between ++ call.enter d y ∷ cs) in
       let without-it = run w₀ (between ++ cs) in

@@ -14,7 +14,7 @@ use Rattle.register.specs.Register.{P}
 use Rattle.register.specs.Calls.{orderOut, shapeChecks}
 use Rattle.player.specs.Calls.{stepChecks}
 use Rattle.player.specs.declared.Player.{Player}
-use Rattle.response.specs.Calls.{clearedWide}
+use Rattle.samples.specs.Samples.{clearedWide}
 use Rattle.records.specs.Record.{apart, fresh}
 use Rattle.records.specs.declared.Campaign.{Campaign}
 use Rattle.campaign.specs.Calls.{withdrawChecks}
@@ -26,7 +26,7 @@ use Rattle.meter.specs.Doors.{tablesShort, recordOf, behind, startDoorChecks, s
 use Rattle.meter.proofs.Opening.{long, put-backs}
 use Rattle.demands.specs.Buffers.{KeepsTail}
 use Rattle.demands.proofs.Tails.{same, put-tail, written, enter-tails, withdraw-tails, response-tails, summary-tails}
-use Rattle.demands.proofs.Handing.{Handed, enter-handed, withdraw-handed, Long, days-long, table-long}
+use Rattle.demands.proofs.Handing.{Handed, enter-handed, withdraw-handed, Long, days-long, slots-long}
 use Rattle.demands.proofs.Demands.{Checked, checked, enterAll, demand-1}
 
 -- `meter_taps`, `meter_sequence`, `meter_recording`, `meter_predict` and `meter_predict_in_room` have the calls' own outcome functions, of which
@@ -143,11 +143,11 @@ module _ (N taps C : ℕ) (days slots : List ℕ) (store sums : List ℤ) where
 
   -- a record handed back, its tables put over the lent ones
   all-put : (366 ≤ length days) × (64 ≤ length slots) → (c : Campaign) → Handed (recordOf N taps C days slots) c → {m t : List ℤ}
-      → KeepsTail (C * P N) store m × KeepsTail (P N) sums t → All (put (c .days) days) (put (c .table) slots) m t
+      → KeepsTail (C * P N) store m × KeepsTail (P N) sums t → All (put (c .days) days) (put (c .slots) slots) m t
   all-put l c h k =
       let wide : Long days slots = record { days = l .0; slots = l .1 } in (
         put-tail (c .days) days (omega (arith, days-long N taps C days slots wide c h)),
-        put-tail (c .table) slots (omega (arith, table-long N taps C days slots wide c h)),
+        put-tail (c .slots) slots (omega (arith, slots-long N taps C days slots wide c h)),
         k .0,
         k .1,
       )
@@ -156,11 +156,11 @@ module _ (N taps C : ℕ) (days slots : List ℕ) (store sums : List ℤ) where
   unfolding startDoor
   start-all = by-answer (first (startDoorChecks N taps C days slots store sums))
     where
-      by-answer : (n : ℕ) → let o = answered {A = ℕ × List ℕ × List ℕ × List ℤ × List ℤ} n (λ n. (n, days, slots, store, sums)) (0, put (fresh N taps C .days) days, put (fresh N taps C .table) slots, clearedWide (C * P N) store, clearedWide (P N) sums) in
+      by-answer : (n : ℕ) → let o = answered {A = ℕ × List ℕ × List ℕ × List ℤ × List ℤ} n (λ n. (n, days, slots, store, sums)) (0, put (fresh N taps C .days) days, put (fresh N taps C .slots) slots, clearedWide (C * P N) store, clearedWide (P N) sums) in
           All (o .1) (o .2) (o .3) (o .4)
       by-answer zero = (
         put-tail (fresh N taps C .days) days (omega (arith, length-replicate {A = ℕ} 366 0)),
-        put-tail (fresh N taps C .table) slots (omega (arith, length-replicate {A = ℕ} 64 0)),
+        put-tail (fresh N taps C .slots) slots (omega (arith, length-replicate {A = ℕ} 64 0)),
         written _ _ _,
         written _ _ _,
       )

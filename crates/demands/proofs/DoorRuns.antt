@@ -11,7 +11,7 @@ use lib.Seq.{length-take-le}
 use Rattle.sums.specs.Lists.{put}
 use Rattle.sums.specs.Refusals.{first, answered}
 use Rattle.register.specs.Register.{P}
-use Rattle.response.specs.Calls.{clearedWide}
+use Rattle.samples.specs.Samples.{clearedWide}
 use Rattle.records.specs.Record.{fresh}
 use Rattle.records.specs.declared.Campaign.{Campaign}
 use Rattle.campaign.specs.Calls.{startChecks, startOutcome, enterOutcome, withdrawOutcome}
@@ -45,14 +45,14 @@ module _ (l : Lent) (t : Long (l .days) (l .slots)) where
   open-tables = simp (le-ltb (length (l .days)) 366 (t .days), le-ltb (length (l .slots)) 64 (t .slots))
 
   abbrev mine : Campaign
-  mine = recordOf (l .order) (l .taps) (l .count) (l .days) (l .slots)
+  mine = recordOf (l .order) (l .taps) (l .capacity) (l .days) (l .slots)
 
-  enter-opened : (d : ℕ) (y : List ℤ) (state value : ℕ) → enterDoor (l .order) (l .taps) (l .count) (l .days) (l .slots) (l .store) (l .sums) d y state value
+  enter-opened : (d : ℕ) (y : List ℤ) (state value : ℕ) → enterDoor (l .order) (l .taps) (l .capacity) (l .days) (l .slots) (l .store) (l .sums) d y state value
       ≡ enteredOut (l .days) (l .slots) state value (enterOutcome mine (l .store) (l .sums) d y)
   unfolding enterDoor
   enter-opened d y state value = sym (opens (l .days) (l .slots) _ _ open-tables)
 
-  withdraw-opened : (d : ℕ) → withdrawDoor (l .order) (l .taps) (l .count) (l .days) (l .slots) (l .store) (l .sums) d
+  withdraw-opened : (d : ℕ) → withdrawDoor (l .order) (l .taps) (l .capacity) (l .days) (l .slots) (l .store) (l .sums) d
       ≡ withdrawnOut (l .days) (l .slots) (withdrawOutcome mine (l .store) (l .sums) d)
   unfolding withdrawDoor
   withdraw-opened d = sym (opens (l .days) (l .slots) _ _ open-tables)
@@ -63,9 +63,9 @@ module _ (l : Lent) (t : Long (l .days) (l .slots)) where
       let h = enter-handed mine (l .store) (l .sums) d y in
       let e = enter-opened d y state value in (
         ap (λ (x : ℕ × List ℕ × List ℕ × List ℤ × List ℤ × ℕ × ℕ). worldOf (holds l (x .1) (x .2) (x .3) (x .4))) e
-            ∙ ap (λ c. worldWith c (o .1) (o .2)) (back-in (l .order) (l .taps) (l .count) (l .days) (l .slots) t (o .0 .campaign) h),
+            ∙ ap (λ c. worldWith c (o .1) (o .2)) (back-in (l .order) (l .taps) (l .capacity) (l .days) (l .slots) t (o .0 .campaign) h),
         ap (λ (x : ℕ × List ℕ × List ℕ × List ℤ × List ℤ × ℕ × ℕ). x .0) e,
-        subst (λ (x : ℕ × List ℕ × List ℕ × List ℤ × List ℤ × ℕ × ℕ). Long (x .1) (x .2)) (sym e) (still-long (l .order) (l .taps) (l .count) (l .days) (l .slots) t (o .0 .campaign) h),
+        subst (λ (x : ℕ × List ℕ × List ℕ × List ℤ × List ℤ × ℕ × ℕ). Long (x .1) (x .2)) (sym e) (still-long (l .order) (l .taps) (l .capacity) (l .days) (l .slots) t (o .0 .campaign) h),
       )
 
   follows-withdraw : (d : ℕ) → Follows l (withdraw d)
@@ -74,9 +74,9 @@ module _ (l : Lent) (t : Long (l .days) (l .slots)) where
       let h = withdraw-handed mine (l .store) (l .sums) d in
       let e = withdraw-opened d in (
         ap (λ (x : ℕ × List ℕ × List ℕ × List ℤ × List ℤ). worldOf (holds l (x .1) (x .2) (x .3) (x .4))) e
-            ∙ ap (λ c. worldWith c (o .1) (o .2)) (back-in (l .order) (l .taps) (l .count) (l .days) (l .slots) t (o .0 .campaign) h),
+            ∙ ap (λ c. worldWith c (o .1) (o .2)) (back-in (l .order) (l .taps) (l .capacity) (l .days) (l .slots) t (o .0 .campaign) h),
         ap (λ (x : ℕ × List ℕ × List ℕ × List ℤ × List ℤ). x .0) e,
-        subst (λ (x : ℕ × List ℕ × List ℕ × List ℤ × List ℤ). Long (x .1) (x .2)) (sym e) (still-long (l .order) (l .taps) (l .count) (l .days) (l .slots) t (o .0 .campaign) h),
+        subst (λ (x : ℕ × List ℕ × List ℕ × List ℤ × List ℤ). Long (x .1) (x .2)) (sym e) (still-long (l .order) (l .taps) (l .capacity) (l .days) (l .slots) t (o .0 .campaign) h),
       )
 
   -- a start: refused, the caller goes on with the numbers that it has; accepted, with those that it gave
@@ -86,16 +86,16 @@ module _ (l : Lent) (t : Long (l .days) (l .slots)) where
         record {
           order = refl;
           taps = refl;
-          slots = refl;
+          capacity = refl;
           days = length-replicate {A = ℕ} 366 0 ∙ sym (length-take-le 366 (l .days) (t .days));
-          table = length-replicate {A = ℕ} 64 0 ∙ sym (length-take-le 64 (l .slots) (t .slots));
+          slots = length-replicate {A = ℕ} 64 0 ∙ sym (length-take-le 64 (l .slots) (t .slots));
         }
 
     abbrev kept : ℕ → ℕ × List ℕ × List ℕ × List ℤ × List ℤ
     kept n = (n, l .days, l .slots, l .store, l .sums)
 
     abbrev made : ℕ × List ℕ × List ℕ × List ℤ × List ℤ
-    made = (0, put (fresh N taps C .days) (l .days), put (fresh N taps C .table) (l .slots), clearedWide (C * P N) (l .store), clearedWide (P N) (l .sums))
+    made = (0, put (fresh N taps C .days) (l .days), put (fresh N taps C .slots) (l .slots), clearedWide (C * P N) (l .store), clearedWide (P N) (l .sums))
 
     start-opened : startDoor N taps C (l .days) (l .slots) (l .store) (l .sums) ≡ answered (first (startChecks N taps C (l .store) (l .sums))) kept made
     unfolding startDoor
@@ -121,19 +121,19 @@ module _ (l : Lent) (t : Long (l .days) (l .slots)) where
         )
 
   -- the calls that only ask
-  counts-opened : (was : Tally) → countsDoor (l .order) (l .taps) (l .count) (l .days) (l .slots) (l .store) (l .sums) was
+  counts-opened : (was : Tally) → countsDoor (l .order) (l .taps) (l .capacity) (l .days) (l .slots) (l .store) (l .sums) was
       ≡ countedOut was (countsOutcome mine (l .store) (l .sums))
   unfolding countsDoor
   counts-opened was = sym (opens (l .days) (l .slots) _ _ open-tables)
 
   response-opened : (r mean room : List ℤ) (tags : List ℕ)
-      → responseDoor (l .order) (l .taps) (l .count) (l .days) (l .slots) (l .store) (l .sums) r mean room tags
+      → responseDoor (l .order) (l .taps) (l .capacity) (l .days) (l .slots) (l .store) (l .sums) r mean room tags
       ≡ responseOutcome mine (l .store) (l .sums) r mean room tags
   unfolding responseDoor
   response-opened r mean room tags = sym (opens (l .days) (l .slots) _ _ open-tables)
 
   summary-opened : (room : List ℤ) (tags : List ℕ) (stood : ℕ) (was : Levels)
-      → summaryDoor (l .order) (l .taps) (l .count) (l .days) (l .slots) (l .store) (l .sums) room tags stood was
+      → summaryDoor (l .order) (l .taps) (l .capacity) (l .days) (l .slots) (l .store) (l .sums) room tags stood was
       ≡ summedOut stood was (summaryOutcome mine (l .store) (l .sums) room tags)
   unfolding summaryDoor
   summary-opened room tags stood was = sym (opens (l .days) (l .slots) _ _ open-tables)
@@ -174,13 +174,13 @@ pub record DoorSaid (l : Lent) (cs : List DoorCall) : Type 0 where
   pub no-fifteen : (c : DoorCall) → doorAnswer (doorRun l cs) c ≡ 15 → ⊥
   -- the doors that only ask answer as the calls do
   pub counts : (was : Tally) → let h = doorRun l cs in let w = worldOf h in
-      countsDoor (h .order) (h .taps) (h .count) (h .days) (h .slots) (h .store) (h .sums) was
+      countsDoor (h .order) (h .taps) (h .capacity) (h .days) (h .slots) (h .store) (h .sums) was
       ≡ countedOut was (countsOutcome (w .campaign) (w .store) (w .sums))
   pub response : (r mean room : List ℤ) (tags : List ℕ) → let h = doorRun l cs in let w = worldOf h in
-      responseDoor (h .order) (h .taps) (h .count) (h .days) (h .slots) (h .store) (h .sums) r mean room tags
+      responseDoor (h .order) (h .taps) (h .capacity) (h .days) (h .slots) (h .store) (h .sums) r mean room tags
       ≡ responseOutcome (w .campaign) (w .store) (w .sums) r mean room tags
   pub summary : (room : List ℤ) (tags : List ℕ) (stood : ℕ) (was : Levels) → let h = doorRun l cs in let w = worldOf h in
-      summaryDoor (h .order) (h .taps) (h .count) (h .days) (h .slots) (h .store) (h .sums) room tags stood was
+      summaryDoor (h .order) (h .taps) (h .capacity) (h .days) (h .slots) (h .store) (h .sums) room tags stood was
       ≡ summedOut stood was (summaryOutcome (w .campaign) (w .store) (w .sums) room tags)
 
 appended : (cs before : List DoorCall) → behindDoors (cs ++ before) ≡ behindDoors cs ++ behindDoors before

@@ -28,20 +28,20 @@ take-put n vs l e = take-at vs (drop (length vs) l) n e
 pub record Handed (c c′ : Campaign) : Type 0 where
   pub order : c′ .order ≡ c .order
   pub taps : c′ .taps ≡ c .taps
-  pub slots : c′ .slots ≡ c .slots
+  pub capacity : c′ .capacity ≡ c .capacity
   pub days : length (c′ .days) ≡ length (c .days)
-  pub table : length (c′ .table) ≡ length (c .table)
+  pub slots : length (c′ .slots) ≡ length (c .slots)
 
 handed-same : (c : Campaign) → Handed c c
-handed-same c = record { order = refl; taps = refl; slots = refl; days = refl; table = refl }
+handed-same c = record { order = refl; taps = refl; capacity = refl; days = refl; slots = refl }
 
 pub enter-handed : (c : Campaign) (store sums : List ℤ) (d : ℕ) (y : List ℤ) → Handed c (enterOutcome c store sums d y .0 .campaign)
 unfolding enterOutcome
 enter-handed c store sums d y =
-    judged (first (enterChecks c store sums d y)) (ltb (railPlace y) (length y)) (still y) (first ((12, eqb (daysIn c standing) (c .slots)) ∷ [])) _ _ _
-    (record { order = refl; taps = refl; slots = refl; days = length-set (c .days) _ _; table = refl })
-    (record { order = refl; taps = refl; slots = refl; days = length-set (c .days) _ _; table = refl })
-    (record { order = refl; taps = refl; slots = refl; days = length-set (c .days) _ _; table = length-set (c .table) _ _ })
+    judged (first (enterChecks c store sums d y)) (ltb (railPlace y) (length y)) (still y) (first ((12, eqb (daysIn c standing) (c .capacity)) ∷ [])) _ _ _
+    (record { order = refl; taps = refl; capacity = refl; days = length-set (c .days) _ _; slots = refl })
+    (record { order = refl; taps = refl; capacity = refl; days = length-set (c .days) _ _; slots = refl })
+    (record { order = refl; taps = refl; capacity = refl; days = length-set (c .days) _ _; slots = length-set (c .slots) _ _ })
   where
     back : ℕ → Entered × List ℤ × List ℤ
     back n = (entered c d (verdict.Refused n), store, sums)
@@ -57,14 +57,14 @@ enter-handed c store sums d y =
 pub withdraw-handed : (c : Campaign) (store sums : List ℤ) (d : ℕ) → Handed c (withdrawOutcome c store sums d .0 .campaign)
 unfolding withdrawOutcome
 withdraw-handed c store sums d =
-    go (first (withdrawChecks c store sums d)) _ (record { order = refl; taps = refl; slots = refl; days = length-set (c .days) _ _; table = length-set (c .table) _ _ })
+    go (first (withdrawChecks c store sums d)) _ (record { order = refl; taps = refl; capacity = refl; days = length-set (c .days) _ _; slots = length-set (c .slots) _ _ })
   where
     go : (n : ℕ) (k : Withdrawn × List ℤ × List ℤ) → Handed c (k .0 .campaign) → Handed c (answered n (λ n. (record { answer = n; campaign = c }, store, sums)) k .0 .campaign)
     go zero k z = z
     go (suc n) k z = handed-same c
 
 abbrev campaignOf : ℕ → ℕ → ℕ → List ℕ → List ℕ → Campaign
-campaignOf N taps C days table = record { order = N; taps = taps; slots = C; days = days; table = table }
+campaignOf N taps C days slots = record { order = N; taps = taps; capacity = C; days = days; slots = slots }
 
 -- tables long enough
 pub record Long (ds ts : List ℕ) : Type 0 where
@@ -75,20 +75,20 @@ module _ (N taps C : ℕ) (days slots : List ℕ) (l : Long days slots) (c : Cam
   pub days-long : length (c .days) ≡ 366
   days-long = h .days ∙ length-take-le 366 days (l .days)
 
-  pub table-long : length (c .table) ≡ 64
-  table-long = h .table ∙ length-take-le 64 slots (l .slots)
+  pub slots-long : length (c .slots) ≡ 64
+  slots-long = h .slots ∙ length-take-le 64 slots (l .slots)
 
   -- written to the tables and read again
-  pub back-in : recordOf N taps C (put (c .days) days) (put (c .table) slots) ≡ c
+  pub back-in : recordOf N taps C (put (c .days) days) (put (c .slots) slots) ≡ c
   back-in =
-      ap₂ (campaignOf N taps C) (take-put 366 (c .days) days days-long) (take-put 64 (c .table) slots table-long)
-      ∙ ap (λ n. campaignOf n taps C (c .days) (c .table)) (sym (h .order))
-      ∙ ap (λ t. campaignOf (c .order) t C (c .days) (c .table)) (sym (h .taps))
-      ∙ ap (λ s. campaignOf (c .order) (c .taps) s (c .days) (c .table)) (sym (h .slots))
+      ap₂ (campaignOf N taps C) (take-put 366 (c .days) days days-long) (take-put 64 (c .slots) slots slots-long)
+      ∙ ap (λ n. campaignOf n taps C (c .days) (c .slots)) (sym (h .order))
+      ∙ ap (λ t. campaignOf (c .order) t C (c .days) (c .slots)) (sym (h .taps))
+      ∙ ap (λ s. campaignOf (c .order) (c .taps) s (c .days) (c .slots)) (sym (h .capacity))
 
-  pub still-long : Long (put (c .days) days) (put (c .table) slots)
+  pub still-long : Long (put (c .days) days) (put (c .slots) slots)
   still-long =
       record {
         days = omega (arith, l .days, length-put (c .days) days (omega (arith, days-long, l .days)));
-        slots = omega (arith, l .slots, length-put (c .table) slots (omega (arith, table-long, l .slots)));
+        slots = omega (arith, l .slots, length-put (c .slots) slots (omega (arith, slots-long, l .slots)));
       }

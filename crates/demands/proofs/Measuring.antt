@@ -17,9 +17,11 @@ use Rattle.register.specs.Calls.{tapsChecks, tapsAnswer, sequenceChecks, sequen
 use Rattle.register.proofs.Judged.{accepted-exactly, generator}
 use Rattle.register.proofs.Word.{small}
 use Rattle.response.specs.Response.{response, prediction}
-use Rattle.response.specs.Calls.{sampleOut, recordingChecks, recordingOutcome, predictionChecks, predictionOutcome, roomedChecks, roomedOutcome}
+use Rattle.samples.specs.Samples.{sampleOut}
+use Rattle.response.specs.Calls.{recordingChecks, recordingOutcome}
+use Rattle.prediction.specs.Calls.{predictionChecks, predictionOutcome, roomedChecks, roomedOutcome}
 use Rattle.response.proofs.Register.{response-bound}
-use Rattle.response.proofs.Samples.{sample-size}
+use Rattle.samples.proofs.Sizes.{sample-size}
 use Rattle.demands.proofs.Checking.{answers-first, accepted-is}
 
 pub sequence-at : (N taps : ℕ) (out : List ℕ) → sequenceOutcome N taps out .0 ≡ 0

@@ -15,7 +15,8 @@ use Rattle.sums.proofs.Everywhere.{putAt-after}
 use Rattle.sums.proofs.Tables.{at-tail, length-table}
 use Rattle.register.specs.Register.{P}
 use Rattle.register.specs.Calls.{sequenceChecks, sequenceOutcome}
-use Rattle.response.specs.Calls.{recordingChecks, recordingOutcome, predictionChecks, predictionOutcome, roomedChecks, roomedOutcome}
+use Rattle.response.specs.Calls.{recordingChecks, recordingOutcome}
+use Rattle.prediction.specs.Calls.{predictionChecks, predictionOutcome, roomedChecks, roomedOutcome}
 use Rattle.records.specs.Record.{standing, daysIn, base, together}
 use Rattle.records.specs.declared.Campaign.{Campaign}
 use Rattle.records.proofs.Holding.{holds-together}
@@ -123,12 +124,12 @@ module _ (c : Campaign) (N taps C : ℕ) (store sums : List ℤ) where
 
 -- ---- an entry and a withdrawal: the store's tail, where a slot is filled or emptied
 
-module _ (c : Campaign) (store : List ℤ) (k : ℕ) (l : k < c .slots) (z : List ℤ) (long : length z ≡ P (c .order))
-    (room : c .slots * P (c .order) ≤ length store) where
-  slot-tail : KeepsTail (c .slots * P (c .order)) store (putAt (base c k) z store)
+module _ (c : Campaign) (store : List ℤ) (k : ℕ) (l : k < c .capacity) (z : List ℤ) (long : length z ≡ P (c .order))
+    (room : c .capacity * P (c .order) ≤ length store) where
+  slot-tail : KeepsTail (c .capacity * P (c .order)) store (putAt (base c k) z store)
   slot-tail = record {
     beyond = λ i x h.
-        let ends : base c k + P (c .order) ≤ c .slots * P (c .order) = omega (arith, mul-le-mul-right (P (c .order)) l, suc-mul k (P (c .order))) in
+        let ends : base c k + P (c .order) ≤ c .capacity * P (c .order) = omega (arith, mul-le-mul-right (P (c .order)) l, suc-mul k (P (c .order))) in
         let e : base c k + (i - base c k) ≡ i = omega arith in
         ap (λ n. getD (putAt (base c k) z store) n x) (sym e)
         ∙ putAt-after (base c k) z store (omega arith) (i - base c k) x (omega arith)
@@ -136,7 +137,7 @@ module _ (c : Campaign) (store : List ℤ) (k : ℕ) (l : k < c .slots) (z : Lis
   }
 
 abbrev Both : Campaign → List ℤ → List ℤ → List ℤ → List ℤ → Type 0
-Both c store sums store′ sums′ = KeepsTail (c .slots * P (c .order)) store store′ × KeepsTail (P (c .order)) sums sums′
+Both c store sums store′ sums′ = KeepsTail (c .capacity * P (c .order)) store store′ × KeepsTail (P (c .order)) sums sums′
 
 same-tails : (c : Campaign) (store sums store′ sums′ : List ℤ) → store′ ≡ store → sums′ ≡ sums → Both c store sums store′ sums′
 same-tails c store sums store′ sums′ e g = (same e, same g)
@@ -155,7 +156,7 @@ unfolding withdrawOutcome
 withdraw-apart c store sums d t = rw t refl
 
 pub enter-tails : (c : Campaign) (store sums : List ℤ) (d : ℕ) (y : List ℤ) → let o = enterOutcome c store sums d y in
-    KeepsTail (c .slots * P (c .order)) store (o .1) × KeepsTail (P (c .order)) sums (o .2)
+    KeepsTail (c .capacity * P (c .order)) store (o .1) × KeepsTail (P (c .order)) sums (o .2)
 enter-tails c store sums d y = by-together (together c store sums) refl
   where
     by-steps : together c store sums ≡ true → Entering (world c store sums) d y (enterOutcome c store sums d y)
@@ -170,7 +171,7 @@ enter-tails c store sums d y = by-together (together c store sums) refl
     by-together false t = same-tails c store sums _ _ (ap (λ o. o .1) (enter-apart c store sums d y t)) (ap (λ o. o .2) (enter-apart c store sums d y t))
 
 pub withdraw-tails : (c : Campaign) (store sums : List ℤ) (d : ℕ) → let o = withdrawOutcome c store sums d in
-    KeepsTail (c .slots * P (c .order)) store (o .1) × KeepsTail (P (c .order)) sums (o .2)
+    KeepsTail (c .capacity * P (c .order)) store (o .1) × KeepsTail (P (c .order)) sums (o .2)
 withdraw-tails c store sums d = by-together (together c store sums) refl
   where
     by-steps : together c store sums ≡ true → Withdrawing (world c store sums) d (withdrawOutcome c store sums d)

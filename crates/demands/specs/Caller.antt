@@ -1,4 +1,4 @@
--- A caller of the C door: it lends the same tables and memory at each call, and the order, taps and slot count of its last accepted start. Assumes
+-- A caller of the C door: it lends the same tables and memory at each call, and the order, taps and capacity of its last accepted start. Assumes
 -- nothing.
 use mathlib.Core.List.{List, [], _∷_}
 use Prim.Native.Nat.{ℕ}
@@ -14,7 +14,7 @@ use Rattle.meter.specs.Doors.{recordOf, startDoor, enterDoor, withdrawDoor, cou
 pub record Lent : Type 0 where
   pub order : ℕ
   pub taps : ℕ
-  pub count : ℕ
+  pub capacity : ℕ
   pub days : List ℕ
   pub slots : List ℕ
   pub store : List ℤ
@@ -35,7 +35,7 @@ begins l N taps C (n, days, slots, store, sums) =
     record {
       order = answered n (λ _. l .order) N;
       taps = answered n (λ _. l .taps) taps;
-      count = answered n (λ _. l .count) C;
+      capacity = answered n (λ _. l .capacity) C;
       days = days;
       slots = slots;
       store = store;
@@ -44,15 +44,15 @@ begins l N taps C (n, days, slots, store, sums) =
 
 abbrev pub holds : Lent → List ℕ → List ℕ → List ℤ → List ℤ → Lent
 holds l days slots store sums =
-    record { order = l .order; taps = l .taps; count = l .count; days = days; slots = slots; store = store; sums = sums }
+    record { order = l .order; taps = l .taps; capacity = l .capacity; days = days; slots = slots; store = store; sums = sums }
 
 abbrev pub doorAfter : Lent → DoorCall → Lent
 doorAfter l (start N taps C) = begins l N taps C (startDoor N taps C (l .days) (l .slots) (l .store) (l .sums))
 doorAfter l (enter d y state value) =
-    let o = enterDoor (l .order) (l .taps) (l .count) (l .days) (l .slots) (l .store) (l .sums) d y state value in
+    let o = enterDoor (l .order) (l .taps) (l .capacity) (l .days) (l .slots) (l .store) (l .sums) d y state value in
     holds l (o .1) (o .2) (o .3) (o .4)
 doorAfter l (withdraw d) =
-    let o = withdrawDoor (l .order) (l .taps) (l .count) (l .days) (l .slots) (l .store) (l .sums) d in
+    let o = withdrawDoor (l .order) (l .taps) (l .capacity) (l .days) (l .slots) (l .store) (l .sums) d in
     holds l (o .1) (o .2) (o .3) (o .4)
 doorAfter l (counts was) = l
 doorAfter l (response r mean room tags) = l
@@ -61,12 +61,12 @@ doorAfter l (summary room tags stood was) = l
 -- the number that the door answers
 abbrev pub doorAnswer : Lent → DoorCall → ℕ
 doorAnswer l (start N taps C) = startDoor N taps C (l .days) (l .slots) (l .store) (l .sums) .0
-doorAnswer l (enter d y state value) = enterDoor (l .order) (l .taps) (l .count) (l .days) (l .slots) (l .store) (l .sums) d y state value .0
-doorAnswer l (withdraw d) = withdrawDoor (l .order) (l .taps) (l .count) (l .days) (l .slots) (l .store) (l .sums) d .0
-doorAnswer l (counts was) = countsDoor (l .order) (l .taps) (l .count) (l .days) (l .slots) (l .store) (l .sums) was .0
-doorAnswer l (response r mean room tags) = responseDoor (l .order) (l .taps) (l .count) (l .days) (l .slots) (l .store) (l .sums) r mean room tags .0
+doorAnswer l (enter d y state value) = enterDoor (l .order) (l .taps) (l .capacity) (l .days) (l .slots) (l .store) (l .sums) d y state value .0
+doorAnswer l (withdraw d) = withdrawDoor (l .order) (l .taps) (l .capacity) (l .days) (l .slots) (l .store) (l .sums) d .0
+doorAnswer l (counts was) = countsDoor (l .order) (l .taps) (l .capacity) (l .days) (l .slots) (l .store) (l .sums) was .0
+doorAnswer l (response r mean room tags) = responseDoor (l .order) (l .taps) (l .capacity) (l .days) (l .slots) (l .store) (l .sums) r mean room tags .0
 doorAnswer l (summary room tags stood was) =
-    summaryDoor (l .order) (l .taps) (l .count) (l .days) (l .slots) (l .store) (l .sums) room tags stood was .0
+    summaryDoor (l .order) (l .taps) (l .capacity) (l .days) (l .slots) (l .store) (l .sums) room tags stood was .0
 
 -- a sequence of calls, the latest first
 unfoldable pub doorRun : Lent → List DoorCall → Lent
@@ -75,7 +75,7 @@ doorRun l (c ∷ earlier) = doorAfter (doorRun l earlier) c
 
 -- the world that the caller lends, and the library's call behind the door
 abbrev pub worldOf : Lent → World
-worldOf l = record { campaign = recordOf (l .order) (l .taps) (l .count) (l .days) (l .slots); store = l .store; sums = l .sums }
+worldOf l = record { campaign = recordOf (l .order) (l .taps) (l .capacity) (l .days) (l .slots); store = l .store; sums = l .sums }
 
 abbrev pub behindDoor : DoorCall → Call
 behindDoor (start N taps C) = call.start N taps C

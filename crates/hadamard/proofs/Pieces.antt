@@ -109,6 +109,22 @@ module _ {n m half : ℕ} {v : List ℤ} (L : Level n m half v) where
         let e : length v ≡ 2 ^ m + 2 ^ m = halved ∙ omega (arith, L .is-half) in
         rw (← L .is-half, first-is, second-is, L .is-half, L .order) (sym (spectrum-halves m v e))
 
+-- a list of 2^(m + 1) numbers, as the small transforms are given one
+pub of-order : (m : ℕ) {v : List ℤ} → (length v ≡ 2 ^ suc m) × (loudness v < 2 ^ 63) → Level (suc m) m (2 ^ m) v
+of-order m given = record { order = refl; is-half = refl; long = given .0; quiet = given .1 }
+
+-- a level leaves w, the transform of its first half is then l, and that of the rest r
+module _ {n m half : ℕ} {v w : List ℤ} (L : Level n m half v) (ew : w ≡ level half v) where
+  pub first-asks : (length (take half w) ≡ 2 ^ m) × (loudness (take half w) < 2 ^ 63)
+  first-asks = left-asks (after L ew)
+
+  module _ {l : List ℤ} (el : l ≡ spectrum m (take half w)) where
+    pub second-asks : (length (rest half w l) ≡ 2 ^ m) × (loudness (rest half w l) < 2 ^ 63)
+    second-asks = right-asks (after L ew) el
+
+    pub whole-is : {r : List ℤ} → r ≡ spectrum m (rest half w l) → joined half w l r ≡ spectrum n v
+    whole-is er = pair-is (after L ew) el er ∙ after-is L ew
+
 -- of two numbers a level is the transform
 pub level-is : {v w : List ℤ} → Level 1 0 1 v → w ≡ level 1 v → w ≡ spectrum 1 v
 level-is {v} {w} L ew =

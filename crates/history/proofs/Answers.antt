@@ -12,7 +12,7 @@ use Rattle.sums.specs.Lists.{table, put}
 use Rattle.sums.specs.Refusals.{first, outcome}
 use Rattle.sums.proofs.First.{accepts, outcome-cases}
 use Rattle.register.specs.Register.{P}
-use Rattle.response.specs.Calls.{clearedWide, clearedTags}
+use Rattle.samples.specs.Samples.{clearedWide, clearedTags}
 use Rattle.records.specs.Record.{standing, overloaded, dead, daysIn, together, fresh, marked}
 use Rattle.campaign.specs.Calls.{startChecks, enterChecks, withdrawChecks, railPlace, still, entered, keptOutcome, judgedOutcome, withdrawnOutcome, startOutcome, enterOutcome, withdrawOutcome, verdictNumber}
 use Rattle.trend.specs.Calls.{responseChecks, summaryChecks, tally, countsOutcome, responseOutcome, summaryOutcome, worked, meanAt, levelsOf, divisor, countsNumber, summaryNumber}
@@ -92,16 +92,16 @@ module _ (w : World) (t : together (w .campaign) (w .store) (w .sums) ≡ true) 
 
       filing : Entered × List ℤ × List ℤ
       filing =
-          outcome ((12, eqb (daysIn (w .campaign) standing) (w .campaign .slots)) ∷ []) (λ m. (entered (w .campaign) d (verdict.Refused m), w .store, w .sums))
+          outcome ((12, eqb (daysIn (w .campaign) standing) (w .campaign .capacity)) ∷ []) (λ m. (entered (w .campaign) d (verdict.Refused m), w .store, w .sums))
           (keptOutcome (w .campaign) (w .store) (w .sums) d y)
 
       by-rail : (a b : Bool) → verdictNumber (cond a over (cond b still-dead filing) .0 .entry .verdict) ≡ 15 → ⊥
       by-rail true b e = omega arith
       by-rail false true e = omega arith
       by-rail false false e =
-          outcome-cases ((12, eqb (daysIn (w .campaign) standing) (w .campaign .slots)) ∷ []) tt (λ m. (entered (w .campaign) d (verdict.Refused m), w .store, w .sums))
+          outcome-cases ((12, eqb (daysIn (w .campaign) standing) (w .campaign .capacity)) ∷ []) tt (λ m. (entered (w .campaign) d (verdict.Refused m), w .store, w .sums))
           (keptOutcome (w .campaign) (w .store) (w .sums) d y) (λ o. verdictNumber (o .0 .entry .verdict) ≡ 15 → ⊥)
-          (λ n _ h g. not-first 15 ((12, eqb (daysIn (w .campaign) standing) (w .campaign .slots)) ∷ []) tt (h ∙ g)) (λ _ g. omega arith) e
+          (λ n _ h g. not-first 15 ((12, eqb (daysIn (w .campaign) standing) (w .campaign .capacity)) ∷ []) tt (h ∙ g)) (λ _ g. omega arith) e
 
   pub never-fifteen : (call : Call) → answer w call ≡ 15 → ⊥
   unfolding startOutcome enterOutcome withdrawOutcome countsOutcome responseOutcome summaryOutcome

@@ -16,7 +16,7 @@ use Rattle.sums.specs.Refusals.{first, answered}
 use Rattle.sums.proofs.First.{refused-first, passed-first, accepts, outcome-cases}
 use Rattle.sums.proofs.Sum.{sum-ext, total-changed}
 use Rattle.register.specs.Register.{P}
-use Rattle.response.specs.Calls.{lengthOff, someOut}
+use Rattle.samples.specs.Samples.{lengthOff, someOut}
 use Rattle.records.specs.Record.{standing, overloaded, dead, withdrawn, state, stands, daysIn, together, marked}
 use Rattle.campaign.specs.Calls.{dayOut, enterChecks, withdrawChecks, railPlace, still, entered, keptOutcome, judgedOutcome, withdrawnOutcome, enterOutcome, withdrawOutcome, verdictNumber}
 use Rattle.history.specs.Run.{World, Call, start, enter, withdraw, counts, response, summary, after, answer, accepted, run, starts, underWay, begun, names, makes, made, recording, heard, Elsewhere}
@@ -38,13 +38,13 @@ use Rattle.history.proofs.EveryRun.{sums-are}
 
 -- those before the verdict, where the record holds together
 abbrev early : Campaign → ℕ → List ℤ → List (ℕ × Bool)
-early c d y = (10, dayOut d) ∷ (5, lengthOff (c .order) y) ∷ (7, someOut (length y) (at y)) ∷ (11, stands c d) ∷ []
+early c d y = (10, dayOut d) ∷ (5, lengthOff (P (c .order)) y) ∷ (7, someOut (length y) (at y)) ∷ (11, stands c d) ∷ []
 
 abbrev keeps : List ℤ → Bool
 keeps y = not (ltb (railPlace y) (length y)) && not (still y)
 
 abbrev full : Campaign → List ℤ → List (ℕ × Bool)
-full c y = (12, keeps y && eqb (daysIn c standing) (c .slots)) ∷ []
+full c y = (12, keeps y && eqb (daysIn c standing) (c .capacity)) ∷ []
 
 enter-answer : (w : World) → together (w .campaign) (w .store) (w .sums) ≡ true → (d : ℕ) (y : List ℤ)
     → answer w (enter d y) ≡ first (early (w .campaign) d y ++ full (w .campaign) y)
@@ -55,7 +55,7 @@ enter-answer w t d y =
     (λ o. verdictNumber (o .0 .entry .verdict) ≡ first (early (w .campaign) d y ++ full (w .campaign) y))
     (λ n h e. let g = sym (ap (λ b. cond (not b) 15 (first (early (w .campaign) d y))) t) ∙ e in
     sym (refused-first (early (w .campaign) d y) (full (w .campaign) y) (λ z. h (sym g ∙ z)) ∙ g))
-    (λ p. judged (ltb (railPlace y) (length y)) (still y) (eqb (daysIn (w .campaign) standing) (w .campaign .slots))
+    (λ p. judged (ltb (railPlace y) (length y)) (still y) (eqb (daysIn (w .campaign) standing) (w .campaign .capacity))
     ∙ sym (passed-first (early (w .campaign) d y) (full (w .campaign) y) tt (accepts (early (w .campaign) d y) (p .1))))
   where
     refusal : ℕ → Entered × List ℤ × List ℤ
@@ -160,22 +160,22 @@ module _ (w₀ : World) (cs : List Call) (started : underWay w₀ cs ≡ true) (
       where
         alike : early campaign-a e z ≡ early campaign-b e z
         alike =
-            ap₂ (λ o q. (10, dayOut e) ∷ (5, lengthOff o z) ∷ (7, someOut (length z) (at z)) ∷ (11, eqb q standing) ∷ [])
+            ap₂ (λ o q. (10, dayOut e) ∷ (5, lengthOff (P o) z) ∷ (7, someOut (length z) (at z)) ∷ (11, eqb q standing) ∷ [])
             (ever (s .onward-a) .order ∙ ap (λ (x : Campaign). x .order) (s .onward-a .same ∙ sym (s .onward-b .same)) ∙ sym (ever (s .onward-b) .order)) (same-state e p n)
 
-        room : eqb (daysIn campaign-b standing) (campaign-b .slots) ≡ false
+        room : eqb (daysIn campaign-b standing) (campaign-b .capacity) ≡ false
         room =
-            ne-eqb (daysIn campaign-b standing) (campaign-b .slots)
-            (λ q. omega (arith, one-more, standing-most campaign-a (ever (s .onward-a) .holds .filed), ever (s .onward-a) .slots, ap (λ (x : Campaign). x .slots) (s .onward-a .same ∙ sym (s .onward-b .same)), ever (s .onward-b) .slots))
+            ne-eqb (daysIn campaign-b standing) (campaign-b .capacity)
+            (λ q. omega (arith, one-more, standing-most campaign-a (ever (s .onward-a) .holds .filed), ever (s .onward-a) .capacity, ap (λ (x : Campaign). x .capacity) (s .onward-a .same ∙ sym (s .onward-b .same)), ever (s .onward-b) .capacity))
 
         and-none : (k : Bool) → k && false ≡ false
         and-none true = refl
         and-none false = refl
 
         passed : first (early campaign-b e z) ≡ 0 → first (full campaign-a z) ≡ 0
-        passed q = go (keeps z && eqb (daysIn campaign-a standing) (campaign-a .slots)) refl
+        passed q = go (keeps z && eqb (daysIn campaign-a standing) (campaign-a .capacity)) refl
           where
-            go : (k : Bool) → keeps z && eqb (daysIn campaign-a standing) (campaign-a .slots) ≡ k → first ((12, k) ∷ []) ≡ 0
+            go : (k : Bool) → keeps z && eqb (daysIn campaign-a standing) (campaign-a .capacity) ≡ k → first ((12, k) ∷ []) ≡ 0
             go false g = refl
             go true g =
                 absurd (twelve (enter-answer (run w₀ a) (holds (s .onward-a)) e z ∙ passed-first (early campaign-a e z) (full campaign-a z) tt (ap first alike ∙ q) ∙ ap (λ k. first ((12, k) ∷ [])) g))

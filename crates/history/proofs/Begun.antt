@@ -12,7 +12,7 @@ use Rattle.sums.specs.Lists.{table}
 use Rattle.sums.proofs.Sum.{sum-ext, sum-zero}
 use Rattle.sums.proofs.Tables.{at-put, length-put, length-table}
 use Rattle.register.specs.Register.{P}
-use Rattle.response.specs.Calls.{clearedWide}
+use Rattle.samples.specs.Samples.{clearedWide}
 use Rattle.records.specs.Record.{unseen, standing, state, slot, sample, usedTotal, fresh}
 use Rattle.campaign.proofs.Passing.{Begins}
 use Rattle.records.proofs.Holding.{Together}
@@ -24,7 +24,7 @@ replicated (suc n) zero = refl
 replicated (suc n) (suc i) = replicated n i
 
 pub begun-sized : (N taps C : ℕ) → Sized (fresh N taps C)
-begun-sized N taps C = record { days = length-replicate {A = ℕ} 366 0; table = length-replicate {A = ℕ} 64 0 }
+begun-sized N taps C = record { days = length-replicate {A = ℕ} 366 0; slots = length-replicate {A = ℕ} 64 0 }
 
 pub begun-state : (N taps C d : ℕ) → state (fresh N taps C) d ≡ unseen
 begun-state N taps C d = replicated 366 (d - 1)

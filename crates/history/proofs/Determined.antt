@@ -34,10 +34,10 @@ use Rattle.player.proofs.clock.play.Kinds as play-kinds
 use Rattle.player.proofs.clock.play.Reads as play
 use Rattle.response.proofs.one_recording.Kinds as one-recording-kinds
 use Rattle.response.proofs.one_recording.Reads as one-recording
-use Rattle.response.proofs.predict.Kinds as predict-kinds
-use Rattle.response.proofs.predict.Reads as predict
-use Rattle.response.proofs.predict_in_room.Kinds as predict-in-room-kinds
-use Rattle.response.proofs.predict_in_room.Reads as predict-in-room
+use Rattle.prediction.proofs.predict.Kinds as predict-kinds
+use Rattle.prediction.proofs.predict.Reads as predict
+use Rattle.prediction.proofs.predict_in_room.Kinds as predict-in-room-kinds
+use Rattle.prediction.proofs.predict_in_room.Reads as predict-in-room
 use Rattle.campaign.proofs.starting.start.Kinds as start-kinds
 use Rattle.campaign.proofs.starting.start.Reads as start
 use Rattle.campaign.proofs.entering.enter.Kinds as enter-kinds
@@ -48,8 +48,8 @@ use Rattle.trend.proofs.counting.counts.Kinds as counts-kinds
 use Rattle.trend.proofs.counting.counts.Reads as counts
 use Rattle.trend.proofs.answering.response.Kinds as response-kinds
 use Rattle.trend.proofs.answering.response.Reads as response
-use Rattle.trend.proofs.summing.summary.Kinds as summary-kinds
-use Rattle.trend.proofs.summing.summary.Reads as summary
+use Rattle.trend.proofs.summarising.summary.Kinds as summary-kinds
+use Rattle.trend.proofs.summarising.summary.Reads as summary
 
 -- what a contract permits determines what is seen of the result and of the parameters at the end
 abbrev pub Determined : (n : ℕ) (ps : List (PK n)) (r : RK n) (A : Type 0) → Out n ps r

@@ -51,8 +51,8 @@ module _ (w₀ : World) (cs : List Call) (started : underWay w₀ cs ≡ true) w
 
   -- ---- 0. The record is that of the last accepted start: its order, taps and slot count.
 
-  pub same-order : (w .campaign .order ≡ N) × (w .campaign .taps ≡ taps) × (w .campaign .slots ≡ begun w₀ cs .slots)
-  same-order = (history .order, history .taps, history .slots)
+  pub same-order : (w .campaign .order ≡ N) × (w .campaign .taps ≡ taps) × (w .campaign .capacity ≡ begun w₀ cs .capacity)
+  same-order = (history .order, history .taps, history .capacity)
 
   -- ---- 1. The record holds together, so no call of the run answers 15.
 
@@ -102,7 +102,7 @@ module _ (w₀ : World) (cs : List Call) (started : underWay w₀ cs ≡ true) w
       ∙ slots-as-days (run w₀ cs .campaign) (s .holds .filed) (λ d. at (heard w₀ cs d) j)
       ∙ sum-ext 366 (λ i h. ap (λ q. cond (eqb q standing) (at (heard w₀ cs (i + 1)) j) (pos 0)) (s .days (i + 1) (day i h)))
     where
-      by-slot : (k : ℕ) → k < run w₀ cs .campaign .slots → j < P (run w₀ cs .campaign .order)
+      by-slot : (k : ℕ) → k < run w₀ cs .campaign .capacity → j < P (run w₀ cs .campaign .order)
           → cond (free (run w₀ cs .campaign) k) (pos 0) (at (run w₀ cs .store) (k * P (run w₀ cs .campaign .order) + j))
           ≡ cond (free (run w₀ cs .campaign) k) (pos 0) (at (heard w₀ cs (slot (run w₀ cs .campaign) k)) j)
       by-slot k h m = elim (ℕ-discrete (slot (run w₀ cs .campaign) k) 0) [

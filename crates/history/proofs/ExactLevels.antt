@@ -16,7 +16,7 @@ use lib.Pow.{pow-pos}
 use Rattle.sums.specs.Refusals.{answered}
 use Rattle.sums.proofs.First.{accepts}
 use Rattle.register.specs.Register.{P}
-use Rattle.response.specs.Calls.{workShort, clearedWide, clearedTags}
+use Rattle.samples.specs.Samples.{workShort, clearedWide, clearedTags}
 use Rattle.records.specs.Record.{standing, daysIn, together}
 use Rattle.trend.specs.Calls.{worked, divisor, extremesOf, levelsOf, summaryChecks, summaryOutcome}
 use Rattle.records.specs.declared.Campaign.{Campaign}

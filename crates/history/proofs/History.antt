@@ -14,8 +14,8 @@ use lib.ListN.{length}
 use Rattle.sums.specs.Lists.{at, table, put, putAt}
 use Rattle.sums.proofs.Tables.{length-table}
 use Rattle.register.specs.Register.{P}
-use Rattle.response.specs.Calls.{clearedWide}
-use Rattle.records.specs.Record.{unseen, standing, withdrawn, state, slot, base, sample, inside, together, fresh, marked, filed}
+use Rattle.samples.specs.Samples.{clearedWide, inside}
+use Rattle.records.specs.Record.{unseen, standing, withdrawn, state, slot, base, sample, together, fresh, marked, filed}
 use Rattle.campaign.specs.Calls.{startOutcome, enterOutcome, withdrawOutcome}
 use Rattle.history.specs.Run.{World, Call, start, enter, withdraw, counts, response, summary, after, answer, accepted, run, starts, underWay, begins, begun, names, makes, made, recording, heard}
 use Rattle.records.specs.declared.Campaign.{Campaign}
@@ -32,11 +32,11 @@ use Rattle.history.proofs.Steps as steps
 pub record Says (c₀ c : Campaign) (store sums : List ℤ) (states : ℕ → ℕ) (hears : ℕ → List ℤ) : Type 0 where
   pub order : c .order ≡ c₀ .order
   pub taps : c .taps ≡ c₀ .taps
-  pub slots : c .slots ≡ c₀ .slots
+  pub capacity : c .capacity ≡ c₀ .capacity
   pub sized : Sized c
   pub holds : Together c store sums
   pub days : (d : ℕ) → Day d → state c d ≡ states d
-  pub slot-hears : (s : ℕ) → s < c .slots → (slot c s ≡ 0 → ⊥) → (j : ℕ) → j < P (c .order) → sample c store s j ≡ at (hears (slot c s)) j
+  pub slot-hears : (s : ℕ) → s < c .capacity → (slot c s ≡ 0 → ⊥) → (j : ℕ) → j < P (c .order) → sample c store s j ≡ at (hears (slot c s)) j
 
 -- the same campaign and the same history
 says-ext : {c₀ c₁ c : Campaign} {store sums : List ℤ} {f g : ℕ → ℕ} {h k : ℕ → List ℤ} → c₀ ≡ c₁ → ((d : ℕ) → f d ≡ g d) → ((d : ℕ) → h d ≡ k d)
@@ -45,7 +45,7 @@ says-ext {c = c} t e q s =
     record {
       order = s .order ∙ ap (λ (x : Campaign). x .order) t;
       taps = s .taps ∙ ap (λ (x : Campaign). x .taps) t;
-      slots = s .slots ∙ ap (λ (x : Campaign). x .slots) t;
+      capacity = s .capacity ∙ ap (λ (x : Campaign). x .capacity) t;
       sized = s .sized;
       holds = s .holds;
       days = λ d r. s .days d r ∙ e d;
@@ -63,7 +63,7 @@ changed-other : {A : Type 0} (d e : ℕ) (v : A) (f : ℕ → A) → (e ≡ d �
 changed-other d e v f n = ap (λ b. cond b v (f e)) (ne-eqb d e (λ x. n (sym x)))
 
 module _ {c₀ c : Campaign} {store sums : List ℤ} {f : ℕ → ℕ} {h : ℕ → List ℤ} (s : Says c₀ c store sums f h) where
-  some : (i : ℕ) → i < c .slots → (slot c i ≡ 0 → ⊥) → Day (slot c i)
+  some : (i : ℕ) → i < c .capacity → (slot c i ≡ 0 → ⊥) → Day (slot c i)
   some i l u = record { first = above (slot c i) u; last = s .holds .filed .named i l u .0 }
     where
       above : (n : ℕ) → (n ≡ 0 → ⊥) → 1 ≤ n
@@ -76,7 +76,7 @@ module _ {c₀ c : Campaign} {store sums : List ℤ} {f : ℕ → ℕ} {h : ℕ 
       record {
         order = s .order;
         taps = s .taps;
-        slots = s .slots;
+        capacity = s .capacity;
         sized = sized-marked c (s .sized) d q r;
         holds = together-marked c store sums (s .sized) d q r (s .holds) n a b;
         days = λ e p. elim (ℕ-discrete e d) [
@@ -88,14 +88,14 @@ module _ {c₀ c : Campaign} {store sums : List ℤ} {f : ℕ → ℕ} {h : ℕ 
       }
 
   -- kept
-  says-kept : (d k : ℕ) (y : List ℤ) → Day d → (state c d ≡ standing → ⊥) → k < c .slots → slot c k ≡ 0 → length y ≡ P (c .order)
+  says-kept : (d k : ℕ) (y : List ℤ) → Day d → (state c d ≡ standing → ⊥) → k < c .capacity → slot c k ≡ 0 → length y ≡ P (c .order)
       → ((j : ℕ) → j < P (c .order) → inside (at y j) ≡ true)
       → Says c₀ (filed c d standing k d) (putAt (base c k) y store) (put (table (P (c .order)) (λ j. at sums j +ℤ at y j)) sums) (changed d standing f) (changed d y h)
   says-kept d k y r n l e long good =
       record {
         order = s .order;
         taps = s .taps;
-        slots = s .slots;
+        capacity = s .capacity;
         sized = sized-filed c (s .sized) d standing r k d;
         holds = together-kept c store sums (s .sized) d k r (s .holds) l e n y long good;
         days = λ g p. elim (ℕ-discrete g d) [
@@ -115,14 +115,14 @@ module _ {c₀ c : Campaign} {store sums : List ℤ} {f : ℕ → ℕ} {h : ℕ 
       }
 
   -- withdrawn
-  says-withdrawn : (d k : ℕ) → Day d → state c d ≡ standing → k < c .slots → slot c k ≡ d
+  says-withdrawn : (d k : ℕ) → Day d → state c d ≡ standing → k < c .capacity → slot c k ≡ d
       → Says c₀ (filed c d withdrawn k 0) (putAt (base c k) (table (P (c .order)) (λ _. pos 0)) store)
       (put (table (P (c .order)) (λ j. at sums j -ℤ sample c store k j)) sums) (changed d withdrawn f) h
   says-withdrawn d k r v l e =
       record {
         order = s .order;
         taps = s .taps;
-        slots = s .slots;
+        capacity = s .capacity;
         sized = sized-filed c (s .sized) d withdrawn r k 0;
         holds = together-withdrawn c store sums (s .sized) d k r (s .holds) l e v;
         days = λ g p. elim (ℕ-discrete g d) [
@@ -182,7 +182,7 @@ anew N taps C store sums b =
     record {
       order = refl;
       taps = refl;
-      slots = refl;
+      capacity = refl;
       sized = begun-sized N taps C;
       holds = begun-together N taps C store sums b;
       days = λ d r. begun-state N taps C d;

@@ -17,21 +17,22 @@ use Rattle.sums.proofs.Ring.{ring}
 use Rattle.sums.proofs.Sum.{sum-changed}
 use Rattle.sums.proofs.Tables.{at-put, at-table, length-put, length-table}
 use Rattle.register.specs.Register.{P}
-use Rattle.records.specs.Record.{standing, withdrawn, state, slot, free, base, sample, usedTotal, inside, marked, filed}
+use Rattle.records.specs.Record.{standing, withdrawn, state, slot, free, base, sample, usedTotal, marked, filed}
+use Rattle.samples.specs.Samples.{inside}
 use Rattle.records.specs.declared.Campaign.{Campaign}
 use Rattle.records.proofs.Holding.{Filed, Together}
 use Rattle.records.proofs.Refiling.{Sized, Day, slot-same, slot-other, marked-filed, taken-filed, freed-filed}
 
 -- ---- one slot of the store
 
-module _ (c : Campaign) (store z : List ℤ) (k : ℕ) (inside : k < c .slots) (room : c .slots * P (c .order) ≤ length store)
+module _ (c : Campaign) (store z : List ℤ) (k : ℕ) (inside : k < c .capacity) (room : c .capacity * P (c .order) ≤ length store)
     (long : length z ≡ P (c .order)) where
   -- a slot ends where the next begins
   ends : (s t : ℕ) → s < t → base c s + P (c .order) ≤ base c t
   ends s t l = omega (arith, mul-le-mul-right (P (c .order)) l, suc-mul s (P (c .order)))
 
   fits : base c k + length z ≤ length store
-  fits = rw long (le-trans (ends k (c .slots) inside) room)
+  fits = rw long (le-trans (ends k (c .capacity) inside) room)
 
   pub store-length : length (putAt (base c k) z store) ≡ length store
   store-length = length-putAt (base c k) z store fits
@@ -52,7 +53,7 @@ module _ (c : Campaign) (store z : List ℤ) (k : ℕ) (inside : k < c .slots) (
 -- ---- slot k given the day t and the samples z
 
 module _ (c : Campaign) (store sums : List ℤ) (w : Sized c) (d q k t : ℕ) (r : Day d) (h : Together c store sums)
-    (inside-slots : k < c .slots) (z : List ℤ) (long : length z ≡ P (c .order)) where
+    (inside-slots : k < c .capacity) (z : List ℤ) (long : length z ≡ P (c .order)) where
   -- what slot s adds to the sums, before and after
   part : ℕ → ℕ → ℤ
   part j s = cond (free c s) (pos 0) (sample c store s j)
@@ -68,7 +69,7 @@ module _ (c : Campaign) (store sums : List ℤ) (w : Sized c) (d q k t : ℕ) (r
 
   new-total : (j : ℕ) → j < P (c .order) → usedTotal (filed c d q k t) (putAt (base c k) z store) j ≡ usedTotal c store j +ℤ (part′ j k -ℤ part j k)
   unfolding part part′
-  new-total j l = sum-changed (c .slots) k (part j) (part′ j) inside-slots (λ s _ n. part-other j s l n)
+  new-total j l = sum-changed (c .capacity) k (part j) (part′ j) inside-slots (λ s _ n. part-other j s l n)
 
   new-slot : slot (filed c d q k t) k ≡ t
   new-slot = slot-same c w d q r k t (omega (arith, h .filed .most))
@@ -102,7 +103,7 @@ module _ (c : Campaign) (store sums : List ℤ) (w : Sized c) (d q k t : ℕ) (r
 
 -- ---- after a kept entry
 
-pub together-kept : (c : Campaign) (store sums : List ℤ) → Sized c → (d k : ℕ) → Day d → Together c store sums → k < c .slots → slot c k ≡ 0
+pub together-kept : (c : Campaign) (store sums : List ℤ) → Sized c → (d k : ℕ) → Day d → Together c store sums → k < c .capacity → slot c k ≡ 0
     → (state c d ≡ standing → ⊥) → (y : List ℤ) → length y ≡ P (c .order) → ((j : ℕ) → j < P (c .order) → inside (at y j) ≡ true)
     → Together (filed c d standing k d) (putAt (base c k) y store) (put (table (P (c .order)) (λ j. at sums j +ℤ at y j)) sums)
 unfolding part part′
@@ -127,7 +128,7 @@ together-kept c store sums w d k r h l e n y long good =
 
 -- ---- after a withdrawal
 
-pub together-withdrawn : (c : Campaign) (store sums : List ℤ) → Sized c → (d k : ℕ) → Day d → Together c store sums → k < c .slots → slot c k ≡ d
+pub together-withdrawn : (c : Campaign) (store sums : List ℤ) → Sized c → (d k : ℕ) → Day d → Together c store sums → k < c .capacity → slot c k ≡ d
     → state c d ≡ standing
     → Together (filed c d withdrawn k 0) (putAt (base c k) (table (P (c .order)) (λ _. pos 0)) store) (put (table (P (c .order)) (λ j. at sums j -ℤ sample c store k j)) sums)
 unfolding part part′

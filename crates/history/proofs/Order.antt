@@ -13,6 +13,7 @@ use Rattle.register.specs.Register.{dot, step, window, period}
 use Rattle.register.specs.Calls.{tapsChecks, tapsAnswer, sequenceChecks, sequenceOutcome, shapeChecks}
 use Rattle.player.specs.Calls.{stepChecks, newOutcome, stepOutcome, playOutcome, newNumber, tickNumber}
 use Rattle.response.proofs.Order as response
+use Rattle.prediction.proofs.Order as prediction
 use Rattle.records.specs.Record.{standing, together, fresh, filed}
 use Rattle.campaign.specs.Calls.{startChecks, startOutcome, enterChecks, enterOutcome, withdrawChecks, withdrawOutcome}
 use Rattle.trend.specs.Calls.{responseChecks, responseOutcome, summaryChecks, summaryOutcome, summaryNumber}
@@ -175,7 +176,8 @@ campaigns =
 pub record OrderOfChecks : Type 0 where
   pub registers : Registers
   pub recordings : response.Order
+  pub predictions : prediction.Order
   pub campaigns : Campaigns
 
 pub order-of-checks : OrderOfChecks
-order-of-checks = record { registers = registers; recordings = response.order; campaigns = campaigns }
+order-of-checks = record { registers = registers; recordings = response.order; predictions = prediction.order; campaigns = campaigns }

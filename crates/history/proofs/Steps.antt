@@ -1,25 +1,23 @@
 -- What a start comes to, and an entry and a withdrawal where the record holds together, case by case; and the number that each answers as one
 -- list of checks. Assumes nothing.
-use mathlib.Core.Path.{_≡_, refl, sym, ap, subst, _∙_}
+use mathlib.Core.Path.{_≡_, refl}
 use mathlib.Core.Bool.{Bool, true, false, cond}
 use mathlib.Core.List.{List, [], _∷_}
 use Prim.Native.Nat.{ℕ, _*_, _≤_, _<_}
 use native.Mathlib.Omega.{arith}
-use borrow.Author.Tests.{lt-ltb, ltb-false, eqb-true, eqb-false, not-false}
-use lib.Dec.{T, eqb, ltb}
-use lib.IntN.{ℤ, pos, negsuc, _+ℤ_, _-ℤ_}
+use borrow.Author.Tests.{ltb-false, eqb-true, eqb-false, not-false}
+use lib.Dec.{eqb, ltb}
+use lib.IntN.{ℤ, pos, _+ℤ_, _-ℤ_}
 use lib.ListN.{length}
-use lib.Signed.{ltZ}
 use Rattle.sums.specs.Lists.{at, table, put, putAt}
 use Rattle.sums.specs.Refusals.{outcome}
-use Rattle.sums.proofs.Everywhere.{both-true}
-use Rattle.sums.proofs.First.{outcome-cases, accepts, or-false}
+use Rattle.sums.proofs.First.{outcome-cases, accepts}
 use Rattle.sums.proofs.Seek.{seek-first}
 use Rattle.sums.proofs.Somewhere.{none-of}
 use Rattle.register.specs.Register.{P}
-use Rattle.response.specs.Calls.{sampleOut, someOut, clearedWide}
-use Rattle.records.specs.Record.{standing, overloaded, dead, withdrawn, state, daysIn, slot, base, sample, inside, eqZ, together, fresh, marked, filed}
-use Rattle.campaign.specs.Calls.{startChecks, startOutcome, enterChecks, withdrawChecks, rail, railPlace, still, entered, lowestFree, slotOfDay, keptOutcome, judgedOutcome, withdrawnOutcome, enterOutcome, withdrawOutcome, verdictNumber}
+use Rattle.samples.specs.Samples.{sampleOut, someOut, clearedWide, inside, rail}
+use Rattle.records.specs.Record.{standing, overloaded, dead, withdrawn, state, daysIn, slot, base, sample, together, fresh, marked, filed}
+use Rattle.campaign.specs.Calls.{startChecks, startOutcome, enterChecks, withdrawChecks, railPlace, still, entered, lowestFree, slotOfDay, keptOutcome, judgedOutcome, withdrawnOutcome, enterOutcome, withdrawOutcome, verdictNumber}
 use Rattle.history.specs.Run.{World}
 use Rattle.records.specs.declared.Campaign.{Campaign}
 use Rattle.campaign.specs.declared.Started.{Started}
@@ -29,25 +27,7 @@ use Rattle.campaign.specs.declared.Verdict.the-variants as verdict
 use Rattle.campaign.proofs.Passing.{Begins, begins, in-day, lowest-free, slot-of-day}
 use Rattle.records.proofs.Holding.{Filed, holds-together}
 use Rattle.records.proofs.Refiling.{Day}
-use Rattle.records.proofs.Tests.{eqZ-same}
-
--- ---- a recording with no sample at a rail
-
-between : (z : ℤ) → sampleOut z ≡ false → rail z ≡ false → inside z ≡ true
-between z a b = go z (or-false (ltZ z (negsuc 8388607)) (ltZ (pos 8388607) z) a) (or-false (eqZ z (negsuc 8388607)) (eqZ z (pos 8388607)) b)
-  where
-    off : (x y : ℤ) → eqZ x y ≡ false → x ≡ y → ⊥
-    off x y h e = subst T (sym (eqZ-same e) ∙ h) tt
-
-    go : (z : ℤ) → (ltZ z (negsuc 8388607) ≡ false) × (ltZ (pos 8388607) z ≡ false) → (eqZ z (negsuc 8388607) ≡ false) × (eqZ z (pos 8388607) ≡ false) → inside z ≡ true
-    go (pos n) a b =
-        let h = ltb-false 8388607 n (a .1) in
-        let m : n ≡ 8388607 → ⊥ = λ e. off (pos n) (pos 8388607) (b .1) (ap pos e) in
-        both-true {b = ltb n 8388607} refl (lt-ltb n 8388607 (omega arith))
-    go (negsuc n) a b =
-        let h = ltb-false 8388607 n (a .0) in
-        let m : n ≡ 8388607 → ⊥ = λ e. off (negsuc n) (negsuc 8388607) (b .0) (ap negsuc e) in
-        both-true {a = ltb n 8388607} (lt-ltb n 8388607 (omega arith)) refl
+use Rattle.samples.proofs.Rails.{between}
 
 -- ---- a start
 
@@ -73,7 +53,7 @@ pub data Entering (w : World) (d : ℕ) (y : List ℤ) (o : Entered × List ℤ 
       → (q ≡ standing → ⊥) → q ≤ withdrawn → Day d → (state (w .campaign) d ≡ standing → ⊥)
       → o .0 .campaign ≡ marked (w .campaign) d q → o .1 ≡ w .store → o .2 ≡ w .sums → Entering w d y o
   kept : (k : ℕ) → verdictNumber (o .0 .entry .verdict) ≡ 0 → cond (ltb (railPlace y) (length y)) overloaded (cond (still y) dead standing) ≡ standing
-      → Day d → (state (w .campaign) d ≡ standing → ⊥) → k < w .campaign .slots → slot (w .campaign) k ≡ 0
+      → Day d → (state (w .campaign) d ≡ standing → ⊥) → k < w .campaign .capacity → slot (w .campaign) k ≡ 0
       → length y ≡ P (w .campaign .order) → ((j : ℕ) → j < P (w .campaign .order) → inside (at y j) ≡ true)
       → o .0 .campaign ≡ filed (w .campaign) d standing k d → o .1 ≡ putAt (base (w .campaign) k) y (w .store)
       → o .2 ≡ put (table (P (w .campaign .order)) (λ j. at (w .sums) j +ℤ at y j)) (w .sums) → Entering w d y o
@@ -96,7 +76,7 @@ entering w d y t =
         f : Filed (w .campaign)
         f = holds-together (w .campaign) (w .store) (w .sums) .0 t .filed
 
-        keep : ltb (railPlace y) (length y) ≡ false → still y ≡ false → (daysIn (w .campaign) standing ≡ w .campaign .slots → ⊥)
+        keep : ltb (railPlace y) (length y) ≡ false → still y ≡ false → (daysIn (w .campaign) standing ≡ w .campaign .capacity → ⊥)
             → Entering w d y (keptOutcome (w .campaign) (w .store) (w .sums) d y)
         keep e g few =
             let k = lowest-free (w .campaign) f few in
@@ -107,22 +87,22 @@ entering w d y t =
             refl refl refl
 
         by-full : ltb (railPlace y) (length y) ≡ false → still y ≡ false
-            → Entering w d y (outcome ((12, eqb (daysIn (w .campaign) standing) (w .campaign .slots)) ∷ []) (λ m. (entered (w .campaign) d (verdict.Refused m), w .store, w .sums)) (keptOutcome (w .campaign) (w .store) (w .sums) d y))
+            → Entering w d y (outcome ((12, eqb (daysIn (w .campaign) standing) (w .campaign .capacity)) ∷ []) (λ m. (entered (w .campaign) d (verdict.Refused m), w .store, w .sums)) (keptOutcome (w .campaign) (w .store) (w .sums) d y))
         by-full e g =
-            outcome-cases ((12, eqb (daysIn (w .campaign) standing) (w .campaign .slots)) ∷ []) tt (λ m. (entered (w .campaign) d (verdict.Refused m), w .store, w .sums))
+            outcome-cases ((12, eqb (daysIn (w .campaign) standing) (w .campaign .capacity)) ∷ []) tt (λ m. (entered (w .campaign) d (verdict.Refused m), w .store, w .sums))
             (keptOutcome (w .campaign) (w .store) (w .sums) d y) (Entering w d y) (λ m h _. refused h refl refl refl)
-            (λ p. keep e g (eqb-false (daysIn (w .campaign) standing) (w .campaign .slots) (p .0)))
+            (λ p. keep e g (eqb-false (daysIn (w .campaign) standing) (w .campaign .capacity) (p .0)))
 
         by-still : ltb (railPlace y) (length y) ≡ false → (b : Bool) → still y ≡ b
             → Entering w d y (cond b (entered (marked (w .campaign) d dead) d verdict.Dead, w .store, w .sums)
-            (outcome ((12, eqb (daysIn (w .campaign) standing) (w .campaign .slots)) ∷ []) (λ m. (entered (w .campaign) d (verdict.Refused m), w .store, w .sums)) (keptOutcome (w .campaign) (w .store) (w .sums) d y)))
+            (outcome ((12, eqb (daysIn (w .campaign) standing) (w .campaign .capacity)) ∷ []) (λ m. (entered (w .campaign) d (verdict.Refused m), w .store, w .sums)) (keptOutcome (w .campaign) (w .store) (w .sums) d y)))
         by-still e true g = aside dead refl (simp (e, g)) (λ x. omega arith) (omega arith) r n refl refl refl
         by-still e false g = by-full e g
 
         by-rail : (b : Bool) → ltb (railPlace y) (length y) ≡ b
             → Entering w d y (cond b (entered (marked (w .campaign) d overloaded) d (verdict.Overloaded (railPlace y)), w .store, w .sums)
             (cond (still y) (entered (marked (w .campaign) d dead) d verdict.Dead, w .store, w .sums)
-            (outcome ((12, eqb (daysIn (w .campaign) standing) (w .campaign .slots)) ∷ []) (λ m. (entered (w .campaign) d (verdict.Refused m), w .store, w .sums)) (keptOutcome (w .campaign) (w .store) (w .sums) d y))))
+            (outcome ((12, eqb (daysIn (w .campaign) standing) (w .campaign .capacity)) ∷ []) (λ m. (entered (w .campaign) d (verdict.Refused m), w .store, w .sums)) (keptOutcome (w .campaign) (w .store) (w .sums) d y))))
         by-rail true e = aside overloaded refl (simp e) (λ x. omega arith) (omega arith) r n refl refl refl
         by-rail false e = by-still e (still y) refl
 
@@ -130,7 +110,7 @@ entering w d y t =
 
 pub data Withdrawing (w : World) (d : ℕ) (o : Withdrawn × List ℤ × List ℤ) : Type 0 where
   refused : (o .0 .answer ≡ 0 → ⊥) → o .0 .campaign ≡ w .campaign → o .1 ≡ w .store → o .2 ≡ w .sums → Withdrawing w d o
-  freed : (k : ℕ) → o .0 .answer ≡ 0 → Day d → state (w .campaign) d ≡ standing → k < w .campaign .slots → slot (w .campaign) k ≡ d
+  freed : (k : ℕ) → o .0 .answer ≡ 0 → Day d → state (w .campaign) d ≡ standing → k < w .campaign .capacity → slot (w .campaign) k ≡ d
       → o .0 .campaign ≡ filed (w .campaign) d withdrawn k 0
       → o .1 ≡ putAt (base (w .campaign) k) (table (P (w .campaign .order)) (λ _. pos 0)) (w .store)
       → o .2 ≡ put (table (P (w .campaign .order)) (λ j. at (w .sums) j -ℤ sample (w .campaign) (w .store) k j)) (w .sums) → Withdrawing w d o

@@ -17,7 +17,8 @@ use Rattle.sums.proofs.First.{accepts}
 use Rattle.sums.proofs.Ring.{ring}
 use Rattle.sums.proofs.Tables.{at-put, at-tail, at-table, table-ext, length-put, length-table}
 use Rattle.register.specs.Register.{P}
-use Rattle.records.specs.Record.{standing, withdrawn, state, slot, base, sample, inside, together, filed}
+use Rattle.records.specs.Record.{standing, withdrawn, state, slot, base, sample, together, filed}
+use Rattle.samples.specs.Samples.{inside}
 use Rattle.campaign.specs.Calls.{dayOut, withdrawChecks, slotOfDay, withdrawnOutcome, withdrawOutcome, enterOutcome}
 use Rattle.history.specs.Run.{World, enter, withdraw, after, answer, makes}
 use Rattle.records.specs.declared.Campaign.{Campaign}
@@ -89,7 +90,7 @@ taken-off n y sums h =
 -- ---- the two calls
 
 module _ (c : Campaign) (store sums : List ℤ) (z : Sized c) (h : Together c store sums) (d k : ℕ) (y : List ℤ) (r : Day d)
-    (n : state c d ≡ standing → ⊥) (l : k < c .slots) (e : slot c k ≡ 0) (long : length y ≡ P (c .order))
+    (n : state c d ≡ standing → ⊥) (l : k < c .capacity) (e : slot c k ≡ 0) (long : length y ≡ P (c .order))
     (good : (j : ℕ) → j < P (c .order) → inside (at y j) ≡ true) where
   -- the record, the store and the sums after the entry
   c₁ : Campaign
@@ -145,17 +146,17 @@ module _ (c : Campaign) (store sums : List ℤ) (z : Sized c) (h : Together c st
       (table-ext (P (c .order)) (λ j m. ap (λ v. at (put (table (P (c .order)) (λ i. at sums i +ℤ at y i)) sums) j -ℤ v) (sample-same c store y k l (h .store-long) long j m)))
       ∙ taken-off (P (c .order)) y sums (h .sums-long)
 
-  slots-back : withdrawOutcome c₁ store₁ sums₁ d .0 .campaign .table ≡ c .table
+  slots-back : withdrawOutcome c₁ store₁ sums₁ d .0 .campaign .slots ≡ c .slots
   slots-back =
-      ap (λ o. o .0 .campaign .table) back
-      ∙ set-set (c .table) k d 0
-      ∙ ap (set (c .table) k) (sym e) ∙ set-getD (c .table) k 0
+      ap (λ o. o .0 .campaign .slots) back
+      ∙ set-set (c .slots) k d 0
+      ∙ ap (set (c .slots) k) (sym e) ∙ set-getD (c .slots) k 0
 
 -- 01: a kept entry followed at once by its withdrawal
 pub record Undone (w w′ : World) : Type 0 where
   pub store : w′ .store ≡ w .store
   pub sums : w′ .sums ≡ w .sums
-  pub slots : w′ .campaign .table ≡ w .campaign .table
+  pub slots : w′ .campaign .slots ≡ w .campaign .slots
 
 pub undone : (w : World) → Sized (w .campaign) → together (w .campaign) (w .store) (w .sums) ≡ true → (d : ℕ) (y : List ℤ)
     → answer w (enter d y) ≡ 0 → makes (enter d y) ≡ standing → Undone w (after (after w (enter d y)) (withdraw d))

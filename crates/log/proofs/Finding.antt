@@ -1,5 +1,5 @@
--- What may be found at a place: a record that may stand there, and its bytes are at hand, at most five; too few bytes, fewer than five, only while more may
--- come; something bad; the end. Assumes nothing.
+-- What may be found at a place: an item that may stand there, and its bytes are at hand, at most five; too few bytes, fewer than five, only while more may
+-- come; the end, where no byte is left and the input may end; something bad, anywhere else. Assumes nothing.
 use mathlib.Core.Path.{_≡_, refl, sym, subst}
 use mathlib.Core.Bool.{Bool, true, false, cond, _&&_, _||_}
 use mathlib.Core.List.{List}
@@ -9,7 +9,9 @@ use borrow.Author.Tests.{eqb-true, ltb-true, leb-true, leb-false}
 use lib.Dec.{T, eqb, ltb, leb}
 use lib.IntN.{ℤ}
 use lib.ListN.{length}
-use Rattle.log.specs.Log.{bodyLength, byteAt, itemAt, mayStand, mayEnd, decoded}
+use Rattle.log.specs.Kinds.{kindStart, kindOpen, kindSample, kindEnter, kindWithdraw, kindAsk, bodyLength}
+use Rattle.log.specs.Phases.{mayStand, mayEnd}
+use Rattle.log.specs.Log.{byteAt, itemAt, decoded}
 use Rattle.log.specs.declared.Phase.{Phase}
 use Rattle.log.specs.declared.Phase.the-variants as phase
 use Rattle.log.specs.declared.Item.{Item}
@@ -17,7 +19,7 @@ use Rattle.log.specs.declared.Item.the-variants as item
 use Rattle.log.specs.declared.Found.{Found}
 use Rattle.log.specs.declared.Found.the-variants as found
 
--- ---- the records that may stand at each place
+-- ---- the items that may stand at each place
 
 -- the first is a start and no other is; samples, no more than P, and enter only in an open day; the others only outside
 pub data Fits (P : ℕ) : Phase → Item → Type 0 where
@@ -29,25 +31,26 @@ pub data Fits (P : ℕ) : Phase → Item → Type 0 where
   enters : {d n : ℕ} → Fits P (phase.Open d n) item.Enter
 
 module _ (P k : ℕ) (bytes : List ℕ) where
-  fits-first : eqb k 1 ≡ true → Fits P phase.Unbegun (itemAt k bytes)
-  fits-first e = rw (eqb-true k 1 e) starts
+  fits-first : eqb k kindStart ≡ true → Fits P phase.Unbegun (itemAt k bytes)
+  fits-first e = rw (eqb-true k kindStart e) starts
 
-  fits-outside : (a b c : Bool) → eqb k 2 ≡ a → eqb k 5 ≡ b → eqb k 6 ≡ c → a || b || c ≡ true → Fits P phase.Between (itemAt k bytes)
-  fits-outside true b c x y z h = rw (eqb-true k 2 x) opens
-  fits-outside false true c x y z h = rw (eqb-true k 5 y) withdraws
-  fits-outside false false true x y z h = rw (eqb-true k 6 z) asks
+  fits-outside : (a b c : Bool) → eqb k kindOpen ≡ a → eqb k kindWithdraw ≡ b → eqb k kindAsk ≡ c → a || b || c ≡ true → Fits P phase.Between (itemAt k bytes)
+  fits-outside true b c x y z h = rw (eqb-true k kindOpen x) opens
+  fits-outside false true c x y z h = rw (eqb-true k kindWithdraw y) withdraws
+  fits-outside false false true x y z h = rw (eqb-true k kindAsk z) asks
   fits-outside false false false x y z h = absurd (subst T (sym h) tt)
 
-  fits-inside : (d n : ℕ) (a b c : Bool) → eqb k 4 ≡ a → eqb k 3 ≡ b → ltb n P ≡ c → a || b && c ≡ true → Fits P (phase.Open d n) (itemAt k bytes)
-  fits-inside d n true b c x y z h = rw (eqb-true k 4 x) enters
-  fits-inside d n false true true x y z h = rw (eqb-true k 3 y) (samples (ltb-true n P z))
+  fits-inside : (d n : ℕ) (a b c : Bool) → eqb k kindEnter ≡ a → eqb k kindSample ≡ b → ltb n P ≡ c → a || b && c ≡ true
+      → Fits P (phase.Open d n) (itemAt k bytes)
+  fits-inside d n true b c x y z h = rw (eqb-true k kindEnter x) enters
+  fits-inside d n false true true x y z h = rw (eqb-true k kindSample y) (samples (ltb-true n P z))
   fits-inside d n false true false x y z h = absurd (subst T (sym h) tt)
   fits-inside d n false false c x y z h = absurd (subst T (sym h) tt)
 
   fits : (p : Phase) → mayStand p P k ≡ true → Fits P p (itemAt k bytes)
   fits phase.Unbegun h = fits-first h
-  fits phase.Between h = fits-outside (eqb k 2) (eqb k 5) (eqb k 6) refl refl refl h
-  fits (phase.Open d n) h = fits-inside d n (eqb k 4) (eqb k 3) (ltb n P) refl refl refl h
+  fits phase.Between h = fits-outside (eqb k kindOpen) (eqb k kindWithdraw) (eqb k kindAsk) refl refl refl h
+  fits (phase.Open d n) h = fits-inside d n (eqb k kindEnter) (eqb k kindSample) (ltb n P) refl refl refl h
   fits phase.Stopped h = absurd (subst T (sym h) tt)
 
 body-short : (k : ℕ) → bodyLength k ≤ 4
@@ -65,8 +68,8 @@ body-short (suc (suc (suc (suc (suc (suc (suc k))))))) = omega arith
 pub data Stands (p : Phase) (P m : ℕ) : Bool → Found → Type 0 where
   whole : {ended : Bool} {i : Item} {n : ℕ} → Fits P p i → 0 < n → n ≤ m → n ≤ 5 → Stands p P m ended (found.Whole i n)
   short : m ≤ 4 → Stands p P m false found.Short
-  bad : {ended : Bool} → Stands p P m ended found.Bad
-  end : {ended : Bool} → Stands p P m ended found.End
+  bad : {ended : Bool} → eqb m 0 && mayEnd p ≡ false → Stands p P m ended found.Bad
+  end : {ended : Bool} → eqb m 0 && mayEnd p ≡ true → Stands p P m ended found.End
 
 module _ {p : Phase} {P m : ℕ} where
   either : {ended : Bool} {x y : Found} (b : Bool) → (b ≡ true → Stands p P m ended x) → (b ≡ false → Stands p P m ended y) → Stands p P m ended (cond b x y)
@@ -80,13 +83,15 @@ module _ {p : Phase} {P m : ℕ} where
 pub stands : (p : Phase) (P : ℕ) (bytes : List ℕ) (ended : Bool) → Stands p P (length bytes) ended (decoded p P bytes ended)
 unfolding decoded
 stands p P bytes ended =
-    either (eqb (length bytes) 0) (λ e. too-few ended (omega (arith, eqb-true (length bytes) 0 e)) (either (mayEnd p) (λ _. end) (λ _. bad)))
-    (λ _. either (mayStand p P (byteAt bytes 0))
-    (λ h. either (leb (length bytes) (bodyLength (byteAt bytes 0))) (λ e. too-few ended (omega (arith, leb-true (length bytes) (bodyLength (byteAt bytes 0)) e, body-short (byteAt bytes 0))) bad)
-    (λ e. whole (fits P (byteAt bytes 0) bytes p h) (omega arith) (omega (arith, leb-false (length bytes) (bodyLength (byteAt bytes 0)) e)) (omega (arith, body-short (byteAt bytes 0)))))
-    (λ _. bad))
+    let m = length bytes in
+    let body = bodyLength (byteAt bytes 0) in
+    either (eqb m 0) (λ e. too-few ended (omega (arith, eqb-true m 0 e)) (either (mayEnd p) (λ h. end (simp (e, h))) (λ h. bad (simp (e, h)))))
+    (λ z. either (mayStand p P (byteAt bytes 0))
+    (λ h. either (leb m body) (λ e. too-few ended (omega (arith, leb-true m body e, body-short (byteAt bytes 0))) (bad (simp z)))
+    (λ e. whole (fits P (byteAt bytes 0) bytes p h) (omega arith) (omega (arith, leb-false m body e)) (omega (arith, body-short (byteAt bytes 0)))))
+    (λ _. bad (simp z)))
 
--- a whole record
+-- a whole item
 pub whole-size : {p : Phase} {P m : ℕ} {ended : Bool} {i : Item} {n : ℕ} → Stands p P m ended (found.Whole i n) → (0 < n) × (n ≤ m) × (n ≤ 5)
 whole-size (whole f a b c) = (a, b, c)
 

@@ -15,7 +15,8 @@ pub record Moved (from i : ℕ) (l s : List ℕ) : Type 0 where
 pub moved-none : {from : ℕ} {l : List ℕ} → Moved from 0 l l
 moved-none = record { front = refl; rest = λ j h. refl }
 
-pub moved-more : {from i : ℕ} {l s : List ℕ} → Moved from i l s → length s ≡ length l → from + i < length l → Moved from (i + 1) l (set s i (getD s (from + i) 0))
+pub moved-more : {from i : ℕ} {l s : List ℕ} → Moved from i l s → length s ≡ length l → from + i < length l
+    → Moved from (i + 1) l (set s i (getD s (from + i) 0))
 moved-more {from} {i} {l} {s} m e h =
     let x = getD s (from + i) 0 in
     let same : x ≡ getD (drop from l) i 0 = m .rest (from + i) (omega arith) ∙ sym (getD-drop from l i 0) in

@@ -8,15 +8,17 @@ use native.Mathlib.Omega.{arith}
 use borrow.Author.Tests.{ne-eqb, le-leb, lt-leb, le-ltb, eqb-true, leb-true, leb-false}
 use lib.Dec.{eqb, leb}
 use lib.ListN.{length, length-append, List·getD-append}
-use Rattle.log.specs.Log.{bodyLength, byteAt, pairAt, signed, itemAt, mayStand, cut, decoded}
+use Rattle.log.specs.Kinds.{kindStart, kindOpen, kindSample, kindEnter, kindWithdraw, kindAsk, bodyLength}
+use Rattle.log.specs.Phases.{mayStand}
+use Rattle.log.specs.Log.{byteAt, pairAt, signed, itemAt, cut, decoded}
 use Rattle.log.specs.declared.Phase.{Phase}
 use Rattle.log.specs.declared.Phase.the-variants as phase
 use Rattle.log.specs.declared.Item.the-variants as item
 use Rattle.log.specs.declared.Found.the-variants as found
 
--- a number that is 0 or above 6 is none of 1 to 6
-none : {k : ℕ} → (k ≡ 0) ⊎ (6 < k) → (n : ℕ) → 0 < n → n ≤ 6 → k ≡ n → ⊥
-none u n h l e = ⊎-elim (λ z. omega arith) (λ z. omega arith) u
+-- a number that is 0 or above the last kind is none of them
+none : {k : ℕ} → (k ≡ 0) ⊎ (kindAsk < k) → (n : ℕ) → 0 < n → n ≤ kindAsk → eqb k n ≡ false
+none {k} u n h l = ne-eqb k n (λ e. ⊎-elim (λ z. omega arith) (λ z. omega arith) u)
 
 -- ---- by the tests
 
@@ -38,10 +40,11 @@ module _ (p : Phase) (P : ℕ) (bytes : List ℕ) (ended : Bool) (some : length 
 -- ---- each way to be bad: at the place of the kind byte
 
 -- an unknown kind
-unknown-barred : (p : Phase) (P k : ℕ) → (k ≡ 0) ⊎ (6 < k) → mayStand p P k ≡ false
-unknown-barred phase.Unbegun P k u = simp (ne-eqb k 1 (none u 1 (omega arith) (omega arith)))
-unknown-barred phase.Between P k u = simp (ne-eqb k 2 (none u 2 (omega arith) (omega arith)), ne-eqb k 5 (none u 5 (omega arith) (omega arith)), ne-eqb k 6 (none u 6 (omega arith) (omega arith)))
-unknown-barred (phase.Open d n) P k u = simp (ne-eqb k 4 (none u 4 (omega arith) (omega arith)), ne-eqb k 3 (none u 3 (omega arith) (omega arith)))
+unknown-barred : (p : Phase) (P k : ℕ) → (k ≡ 0) ⊎ (kindAsk < k) → mayStand p P k ≡ false
+unknown-barred phase.Unbegun P k u = none u kindStart (omega arith) (omega arith)
+unknown-barred phase.Between P k u =
+    simp (none u kindOpen (omega arith) (omega arith), none u kindWithdraw (omega arith) (omega arith), none u kindAsk (omega arith) (omega arith))
+unknown-barred (phase.Open d n) P k u = simp (none u kindEnter (omega arith) (omega arith), none u kindSample (omega arith) (omega arith))
 unknown-barred phase.Stopped P k u = refl
 
 -- a kind that may not stand there, whatever follows it
@@ -49,7 +52,7 @@ module _ (p : Phase) (P k : ℕ) (rest : List ℕ) (ended : Bool) where
   pub misplaced : mayStand p P k ≡ false → decoded p P (k ∷ rest) ended ≡ found.Bad
   misplaced m = sym (barred p P (k ∷ rest) ended (λ e. omega arith) m)
 
-  pub unknown-kind : (k ≡ 0) ⊎ (6 < k) → decoded p P (k ∷ rest) ended ≡ found.Bad
+  pub unknown-kind : (k ≡ 0) ⊎ (kindAsk < k) → decoded p P (k ∷ rest) ended ≡ found.Bad
   unknown-kind u = misplaced (unknown-barred p P k u)
 
   -- a cut body, once the input has ended
@@ -57,11 +60,11 @@ module _ (p : Phase) (P k : ℕ) (rest : List ℕ) (ended : Bool) where
   cut-body m h = sym (short p P (k ∷ rest) true (λ e. omega arith) m (omega arith))
 
 -- a second start; a sample beyond P
-pub second-start : (P : ℕ) (rest : List ℕ) (ended : Bool) → decoded phase.Between P (1 ∷ rest) ended ≡ found.Bad
-second-start P rest ended = misplaced phase.Between P 1 rest ended refl
+pub second-start : (P : ℕ) (rest : List ℕ) (ended : Bool) → decoded phase.Between P (kindStart ∷ rest) ended ≡ found.Bad
+second-start P rest ended = misplaced phase.Between P kindStart rest ended refl
 
-pub beyond-P : (d P : ℕ) (rest : List ℕ) (ended : Bool) → decoded (phase.Open d P) P (3 ∷ rest) ended ≡ found.Bad
-beyond-P d P rest ended = misplaced (phase.Open d P) P 3 rest ended (le-ltb P P (omega arith))
+pub beyond-P : (d P : ℕ) (rest : List ℕ) (ended : Bool) → decoded (phase.Open d P) P (kindSample ∷ rest) ended ≡ found.Bad
+beyond-P d P rest ended = misplaced (phase.Open d P) P kindSample rest ended (le-ltb P P (omega arith))
 
 -- the end of the input inside an open day, and with no input at all: the place is the input's length
 pub ends-in-a-day : (d n P : ℕ) → decoded (phase.Open d n) P [] true ≡ found.Bad
@@ -87,16 +90,16 @@ module _ (bytes more : List ℕ) where
 
   same-item : (k : ℕ) → bodyLength k < length bytes → itemAt k (bytes ++ more) ≡ itemAt k bytes
   same-item k h =
-      pick (eqb k 1) (λ e. let l : 4 < length bytes = rw (eqb-true k 1 e) at h in
+      pick (eqb k kindStart) (λ e. let l : 4 < length bytes = rw (eqb-true k kindStart e) at h in
       rw (same-byte 1 (omega arith), same-pair 2 (omega arith), same-byte 4 (omega arith)))
-      (pick (eqb k 2) (λ e. let l : 2 < length bytes = rw (eqb-true k 2 e) at h in ap item.Open (same-pair 1 (omega arith)))
-      (pick (eqb k 3) (λ e. let l : 3 < length bytes = rw (eqb-true k 3 e) at h in
+      (pick (eqb k kindOpen) (λ e. let l : 2 < length bytes = rw (eqb-true k kindOpen e) at h in ap item.Open (same-pair 1 (omega arith)))
+      (pick (eqb k kindSample) (λ e. let l : 3 < length bytes = rw (eqb-true k kindSample e) at h in
       ap (λ n. item.Sample (signed n)) (ap₂ (λ a b. a + 65536 * b) (same-pair 1 (omega arith)) (same-byte 3 l)))
-      (pick (eqb k 4) (λ e. refl)
-      (pick (eqb k 5) (λ e. let l : 2 < length bytes = rw (eqb-true k 5 e) at h in ap item.Withdraw (same-pair 1 (omega arith))) refl))))
+      (pick (eqb k kindEnter) (λ e. refl)
+      (pick (eqb k kindWithdraw) (λ e. let l : 2 < length bytes = rw (eqb-true k kindWithdraw e) at h in ap item.Withdraw (same-pair 1 (omega arith))) refl))))
 
 module _ (p : Phase) (P : ℕ) (k : ℕ) (bytes more : List ℕ) (ended : Bool) where
-  -- while more may come a record is not whole, or it is the one that is found with all that comes
+  -- while more may come an item is not whole, or it is the one that is found with all that comes
   settled-at : (b : Bool) → mayStand p P k ≡ b → (c : Bool) → leb (suc (length bytes)) (bodyLength k) ≡ c
       → (decoded p P (k ∷ bytes) false ≡ found.Short) ⊎ (decoded p P (k ∷ bytes ++ more) ended ≡ decoded p P (k ∷ bytes) false)
   settled-at false m c e = inr (misplaced p P k (bytes ++ more) ended m ∙ sym (misplaced p P k bytes false m))

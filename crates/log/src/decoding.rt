@@ -2,25 +2,24 @@
 use crate::Found;
 use crate::Item;
 use crate::Phase;
+use crate::kinds::ENTER;
+use crate::kinds::OPEN;
+use crate::kinds::SAMPLE;
+use crate::kinds::START;
+use crate::kinds::WITHDRAW;
+use crate::kinds::body_length;
+use crate::phases::may_end;
+use crate::phases::may_stand;
 ghost use mathlib.Core.Path.{_≡_};
 ghost use Prim.Native.Nat.{_+_, _<_};
-ghost use mathlib.Core.Bool.{_&&_, _||_};
-ghost use lib.Dec.{eqb, ltb};
 ghost use lib.ListN.{length};
-ghost use Rattle.log.specs.Log.{bodyLength, byteAt, pairAt, sampleAt, itemAt, mayStand, ending, cut as cutOff, decoded};
+ghost use Rattle.log.specs.Kinds.{bodyLength};
+ghost use Rattle.log.specs.Log.{byteAt, pairAt, sampleAt, itemAt, ending, cut as cutOff, decoded};
 
-// How many bytes follow a kind.
-fn body_length(kind: u8) -> usize
-    ensures { λ r. ⌜ r ≡ bodyLength kind ⌝ }
-{
-    match kind {
-        1 => 4,
-        2 => 2,
-        3 => 3,
-        5 => 2,
-        _ => 0,
-    }
-}
+// How many numbers three bytes hold, and the first of the upper half, which stands for the negative ones.
+const THREE_BYTES: i32 = 16777216;
+
+const FIRST_NEGATIVE: u32 = 8388608;
 
 fn byte_at(bytes: &[u8], i: usize) -> u32
     requires { ⌜ i < length (now bytes) ⌝ }
@@ -43,60 +42,25 @@ fn sample_at(bytes: &[u8]) -> i32
     ensures { λ r. ⌜ r ≡ sampleAt (now (bytes .entry)) ⌝ }
 {
     let n = pair_at(bytes, 1) + 65536 * byte_at(bytes, 3);
-    if n < 8388608 {
+    if n < FIRST_NEGATIVE {
         n as i32
     } else {
-        n as i32 - 16777216
+        n as i32 - THREE_BYTES
     }
 }
 
-// The record of a kind.
+// The item of a kind.
 fn item_at(kind: u8, bytes: &[u8]) -> Item
     requires { ⌜ bodyLength kind < length (now bytes) ⌝ }
     ensures { λ r. ⌜ r ≡ itemAt kind (now (bytes .entry)) ⌝ }
 {
     match kind {
-        1 => Item::Start(byte_at(bytes, 1), pair_at(bytes, 2), byte_at(bytes, 4)),
-        2 => Item::Open(pair_at(bytes, 1)),
-        3 => Item::Sample(sample_at(bytes)),
-        4 => Item::Enter,
-        5 => Item::Withdraw(pair_at(bytes, 1)),
+        START => Item::Start(byte_at(bytes, 1), pair_at(bytes, 2), byte_at(bytes, 4)),
+        OPEN => Item::Open(pair_at(bytes, 1)),
+        SAMPLE => Item::Sample(sample_at(bytes)),
+        ENTER => Item::Enter,
+        WITHDRAW => Item::Withdraw(pair_at(bytes, 1)),
         _ => Item::Ask,
-    }
-}
-
-// 2, 5 and 6 stand only outside a day.
-fn stands_outside(kind: u8) -> bool
-    ensures { λ r. ⌜ r ≡ eqb kind 2 || eqb kind 5 || eqb kind 6 ⌝ }
-{
-    if kind == 2 {
-        return true;
-    }
-    if kind == 5 {
-        return true;
-    }
-    kind == 6
-}
-
-// 3 and 4 only in an open day, 3 for no more than P samples.
-fn stands_inside(kind: u8, n: usize, period: usize) -> bool
-    ensures { λ r. ⌜ r ≡ eqb kind 4 || eqb kind 3 && ltb n period ⌝ }
-{
-    if kind == 4 {
-        return true;
-    }
-    kind == 3 && n < period
-}
-
-// Whether a kind may stand here.
-fn may_stand(phase: Phase, period: usize, kind: u8) -> bool
-    ensures { λ r. ⌜ r ≡ mayStand phase period kind ⌝ }
-{
-    match phase {
-        Phase::Unbegun => kind == 1,
-        Phase::Between => stands_outside(kind),
-        Phase::Open(_, n) => stands_inside(kind, n, period),
-        Phase::Stopped => false,
     }
 }
 
@@ -107,12 +71,10 @@ fn at_end(phase: Phase, ended: bool) -> Found
     if !ended {
         return Found::Short;
     }
-    match phase {
-        Phase::Unbegun => Found::Bad,
-        Phase::Between => Found::End,
-        Phase::Open(_, _) => Found::Bad,
-        Phase::Stopped => Found::End,
+    if may_end(phase) {
+        return Found::End;
     }
+    Found::Bad
 }
 
 // A body is not whole.

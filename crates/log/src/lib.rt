@@ -1,10 +1,12 @@
-// A campaign's log: its records, and what stands at a place of it.
+// A campaign's log: its items, which document 01 calls records, and what stands at a place of it.
 pub mod decoding;
 pub mod feeding;
+pub mod kinds;
+pub mod phases;
 
-// Where the log stands between records.
+// Where the log stands between items.
 pub enum Phase {
-    // No record yet.
+    // No item yet.
     Unbegun,
     // Outside a day.
     Between,
@@ -14,7 +16,7 @@ pub enum Phase {
     Stopped,
 }
 
-// A record of the log.
+// An item of the log.
 pub enum Item {
     // Order, taps, slots.
     Start(u32, u32, u32),
@@ -27,7 +29,7 @@ pub enum Item {
 
 // What stands at a place of the log.
 pub enum Found {
-    // A whole record, and how many bytes it takes.
+    // A whole item, and how many bytes it takes.
     Whole(Item, usize),
     // What may be the beginning of one: more of the input is needed.
     Short,

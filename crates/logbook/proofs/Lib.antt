@@ -1,3 +1,4 @@
--- The laws of what a log's records do.
+-- The laws of what a log's items do.
 pub mod Rows
 pub mod Starts
+mod Shut

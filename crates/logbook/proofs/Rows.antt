@@ -1,4 +1,4 @@
--- How many lines of the response follow a record: at most 511. Assumes nothing.
+-- How many lines of the response follow an item: at most 511. Assumes nothing.
 use mathlib.Core.Path.{_≡_, refl}
 use mathlib.Core.Bool.{Bool, true, false, cond}
 use mathlib.Core.List.{List}
@@ -27,7 +27,8 @@ day-in N false e = omega arith
 pub day-short : (N : ℕ) → dayLength N ≤ 511
 day-short N = day-in N (leb N 9) refl
 
-began-none : (k : ℕ) (refused : ℕ → Applied × List ℤ × List ℤ) (accepted : Applied × List ℤ × List ℤ) → ((n : ℕ) → refused n .0 .rows ≡ 0) → accepted .0 .rows ≡ 0
+began-none : (k : ℕ) (refused : ℕ → Applied × List ℤ × List ℤ) (accepted : Applied × List ℤ × List ℤ) → ((n : ℕ) → refused n .0 .rows ≡ 0)
+    → accepted .0 .rows ≡ 0
     → answered k refused accepted .0 .rows ≡ 0
 began-none zero refused accepted f e = e
 began-none (suc k) refused accepted f e = f (suc k)
@@ -54,4 +55,5 @@ rows-few b (item.Sample v) m = omega arith
 rows-few b item.Enter m = omega (arith, close-few (b .phase) (b .campaign) (m .store) (m .sums) (m .recording))
 rows-few b (item.Withdraw d) m = omega arith
 rows-few b item.Ask m =
-    rows-in (responseOutcome (b .campaign) (m .store) (m .sums) (m .r) (m .mean) (m .room) (m .tags) .0) (dayLength (b .campaign .order)) (day-short (b .campaign .order))
+    rows-in (responseOutcome (b .campaign) (m .store) (m .sums) (m .r) (m .mean) (m .room) (m .tags) .0) (dayLength (b .campaign .order))
+    (day-short (b .campaign .order))

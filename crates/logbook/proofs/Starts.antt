@@ -36,7 +36,8 @@ module _ (c : Campaign) (N taps C : ℕ) (store sums : List ℤ) (room : 4088 �
       ap (λ (o : Started × List ℤ × List ℤ). o .0 .answer) (accepted-with _ _ (startChecks N taps C store sums) 0 (sym e) refl)
 
   by-answer : (k : ℕ) → first (logStartChecks N taps C) ≡ k
-      → answered k (λ n. (startedBy (record { answer = n; campaign = c }), store, sums)) (over startedBy (startOutcome c N taps C store sums)) .0 .line ≡ line.Started k
+      → answered k (λ n. (startedBy (record { answer = n; campaign = c }), store, sums)) (over startedBy (startOutcome c N taps C store sums)) .0 .line
+      ≡ line.Started k
   by-answer zero e = ap line.Started (accepted e)
   by-answer (suc k) e = refl
 

@@ -1,8 +1,8 @@
--- Document 01, "The log program": what each record does to the state between records and to the memory lent, and the line that it makes,
+-- Document 01, "The log program": what each item does to the state between items and to the memory lent, and the line that it makes,
 -- by the campaign's calls. Assumes nothing.
 use mathlib.Core.List.{List, [], _∷_, _++_}
 use mathlib.Core.Bool.{Bool, cond, _||_}
-use Prim.Native.Nat.{ℕ, _+_}
+use Prim.Native.Nat.{ℕ}
 use lib.Dec.{ltb, leb}
 use lib.IntN.{ℤ}
 use lib.ListN.{length, take, set}
@@ -19,6 +19,7 @@ use Rattle.trend.specs.Calls.{countsOutcome, responseOutcome}
 use Rattle.trend.specs.declared.Tally.{Tally}
 use Rattle.trend.specs.declared.Counts.{Counts}
 use Rattle.trend.specs.declared.Counts.the-variants as counts
+use Rattle.log.specs.Phases.{firstPhase, afterStart, afterOpen, afterSample, afterEnter}
 use Rattle.log.specs.declared.Phase.{Phase}
 use Rattle.log.specs.declared.Phase.the-variants as phase
 use Rattle.log.specs.declared.Item.{Item}
@@ -32,12 +33,12 @@ use Rattle.logbook.specs.declared.Applied.{Applied}
 abbrev pub over : {A : Type 0} → (A → Applied) → A × List ℤ × List ℤ → Applied × List ℤ × List ℤ
 over f o = (f (o .0), o .1, o .2)
 
--- the phase, the record and the line, with no lines after it
+-- the phase, the campaign and the line, with no lines after it
 abbrev pub said : Phase → Campaign → Line → Applied
 said p c l = record { book = record { phase = p; campaign = c }; line = l; rows = 0 }
 
 abbrev pub unbegunBook : Book
-unbegunBook = record { phase = phase.Unbegun; campaign = fresh 0 0 0 }
+unbegunBook = record { phase = firstPhase; campaign = fresh 0 0 0 }
 
 -- ---- start: 1, 2, 3, 4, 9, and 17 in the place of 6
 
@@ -50,7 +51,7 @@ logStartChecks N taps C = tapsChecks N taps ++ (9, slotsOut C) ∷ (17, tooLarge
 
 -- a refused start prints its line and stops
 abbrev pub startedBy : Started → Applied
-startedBy s = said (answered (s .answer) (λ _. phase.Stopped) phase.Between) (s .campaign) (line.Started (s .answer))
+startedBy s = said (afterStart (s .answer)) (s .campaign) (line.Started (s .answer))
 
 unfoldable pub beganOutcome : Campaign → ℕ → ℕ → ℕ → List ℤ → List ℤ → Applied × List ℤ × List ℤ
 beganOutcome c N taps C store sums =
@@ -65,7 +66,7 @@ dayLength N = cond (leb N 9) (P N) 0
 
 -- a sample of an open day goes to the next place of the recording
 abbrev pub putSample : ℕ → ℕ → ℤ → List ℤ → Phase × List ℤ
-putSample d n v y = cond (ltb n (length y)) (phase.Open d (n + 1), set y n v) (phase.Open d n, y)
+putSample d n v y = cond (ltb n (length y)) (afterSample d n, set y n v) (phase.Open d n, y)
 
 abbrev pub tookSample : Phase → ℤ → List ℤ → Phase × List ℤ
 tookSample phase.Unbegun v y = (phase.Unbegun, y)
@@ -75,7 +76,7 @@ tookSample phase.Stopped v y = (phase.Stopped, y)
 
 -- enter closes it
 abbrev pub enteredBy : Entered → Applied
-enteredBy e = said phase.Between (e .campaign) (line.Entered (e .entry))
+enteredBy e = said afterEnter (e .campaign) (line.Entered (e .entry))
 
 abbrev pub enteredOutcome : Campaign → ℕ → ℕ → List ℤ → List ℤ → List ℤ → Applied × List ℤ × List ℤ
 enteredOutcome c d n store sums y = over enteredBy (enterOutcome c store sums d (take n y))
@@ -115,7 +116,7 @@ abbrev pub askedOutcome : Book → List ℤ → List ℤ → List ℤ → List �
 askedOutcome b store sums r mean room tags =
     asks b (countsOutcome (b .campaign) store sums) (responseOutcome (b .campaign) store sums r mean room tags)
 
--- ---- any record
+-- ---- any item
 
 -- what is lent: the store and the sums, the open day's recording, the response and the mean, the working room and the tags
 pub record Memory : Type 0 where
@@ -143,7 +144,7 @@ asking m o = (o .0, memory (m .store) (m .sums) (m .recording) (o .1) (o .2) (o 
 
 unfoldable pub applied : Book → Item → Memory → Applied × Memory
 applied b (item.Start N taps C) m = filing m (beganOutcome (b .campaign) N taps C (m .store) (m .sums))
-applied b (item.Open d) m = (said (phase.Open d 0) (b .campaign) line.Silent, m)
+applied b (item.Open d) m = (said (afterOpen d) (b .campaign) line.Silent, m)
 applied b (item.Sample v) m = sampling m (b .campaign) (tookSample (b .phase) v (m .recording))
 applied b item.Enter m = filing m (closedOutcome (b .phase) (b .campaign) (m .store) (m .sums) (m .recording))
 applied b (item.Withdraw d) m = filing m (withdrewOutcome (b .phase) (b .campaign) d (m .store) (m .sums))

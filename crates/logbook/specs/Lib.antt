@@ -1,2 +1,2 @@
--- What a reader must believe of what a log's records do.
+-- What a reader must believe of what a log's items do.
 pub mod Book

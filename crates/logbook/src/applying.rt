@@ -1,4 +1,4 @@
-// What a record does to the state and the memory lent, and the line that it makes.
+// What an item does to the state and the memory lent, and the line that it makes.
 use crate::Applied;
 use crate::Book;
 use crate::LOG_ORDER;
@@ -11,6 +11,11 @@ use campaign::starting::start;
 use campaign::withdrawing::withdraw;
 use log::Item;
 use log::Phase;
+use log::phases::after_enter;
+use log::phases::after_open;
+use log::phases::after_sample;
+use log::phases::after_start;
+use log::phases::first_phase;
 use records::Campaign;
 use records::MOST_SLOTS;
 use records::filing::blank;
@@ -24,14 +29,15 @@ use trend::answering::response;
 use trend::counting::counts;
 ghost use mathlib.Core.Path.{_≡_};
 ghost use Rattle.sums.specs.Refusals.{first};
-ghost use Rattle.logbook.specs.Book.{unbegunBook, tooLarge, logStartChecks, dayLength, said, startedBy, beganOutcome, putSample, tookSample, enteredBy, enteredOutcome, closedOutcome, withdrawnBy, withdrewOutcome, tallied, askedOutcome, memory, applied};
+ghost use Rattle.logbook.specs.Book.{unbegunBook, tooLarge, logStartChecks, dayLength, said, startedBy, beganOutcome, tookSample};
+ghost use Rattle.logbook.specs.Book.{enteredBy, enteredOutcome, closedOutcome, withdrawnBy, withdrewOutcome, tallied, askedOutcome, memory, applied};
 
-// The state before the first record.
+// The state before the first item.
 pub fn unbegun() -> Book
     ensures { λ r. ⌜ r ≡ unbegunBook ⌝ }
 {
     Book {
-        phase: Phase::Unbegun,
+        phase: first_phase(),
         campaign: blank(0, 0, 0),
     }
 }
@@ -70,7 +76,7 @@ pub fn day_length(order: u32) -> usize
     full_period(order) as usize
 }
 
-// The phase, the record and the line, with no lines after it.
+// The phase, the campaign and the line, with no lines after it.
 fn say(phase: Phase, campaign: Campaign, line: Line) -> Applied
     ensures { λ r. ⌜ r ≡ said phase campaign line ⌝ }
 {
@@ -86,10 +92,7 @@ fn started_by(s: Started) -> Applied
 {
     let answer = s.answer;
     let campaign = s.campaign;
-    if answer != 0 {
-        return say(Phase::Stopped, campaign, Line::Started(answer));
-    }
-    say(Phase::Between, campaign, Line::Started(answer))
+    say(after_start(answer), campaign, Line::Started(answer))
 }
 
 // A start, refusing 1, 2, 3, 4, 9, 17.
@@ -113,26 +116,17 @@ fn begin(
     started_by(start(c, order, taps, slots, store, sums))
 }
 
-// The sample at the next place of the open day's recording.
-fn put_sample(day: u32, n: usize, v: i32, recording: &mut [i32]) -> Phase
-    ensures { λ x. ⌜ (x, now (recording .exit)) ≡ putSample day n v (now (recording .entry)) ⌝ }
-{
-    if recording.len() <= n {
-        return Phase::Open(day, n);
-    }
-    recording[n] = v;
-    Phase::Open(day, n + 1)
-}
-
+// The sample goes to the next place of the open day's recording.
 fn take_sample(phase: Phase, v: i32, recording: &mut [i32]) -> Phase
     ensures { λ x. ⌜ (x, now (recording .exit)) ≡ tookSample phase v (now (recording .entry)) ⌝ }
 {
-    match phase {
-        Phase::Unbegun => Phase::Unbegun,
-        Phase::Between => Phase::Between,
-        Phase::Open(day, n) => put_sample(day, n, v, recording),
-        Phase::Stopped => Phase::Stopped,
+    if let Phase::Open(day, n) = phase {
+        if n < recording.len() {
+            recording[n] = v;
+            return after_sample(day, n);
+        }
     }
+    phase
 }
 
 fn entered_by(e: Entered) -> Applied
@@ -140,7 +134,7 @@ fn entered_by(e: Entered) -> Applied
 {
     let entry = e.entry;
     let campaign = e.campaign;
-    say(Phase::Between, campaign, Line::Entered(entry))
+    say(after_enter(), campaign, Line::Entered(entry))
 }
 
 // The open day's recording is entered, and the day is closed.
@@ -169,12 +163,10 @@ fn close(
 ) -> Applied
     ensures { λ x. ⌜ (x, now (store .exit), now (sums .exit)) ≡ closedOutcome phase c (now (store .entry)) (now (sums .entry)) (now (recording .entry)) ⌝ }
 {
-    match phase {
-        Phase::Unbegun => say(Phase::Unbegun, c, Line::Silent),
-        Phase::Between => say(Phase::Between, c, Line::Silent),
-        Phase::Open(day, n) => enter_day(c, day, n, store, sums, recording),
-        Phase::Stopped => say(Phase::Stopped, c, Line::Silent),
+    if let Phase::Open(day, n) = phase {
+        return enter_day(c, day, n, store, sums, recording);
     }
+    say(phase, c, Line::Silent)
 }
 
 fn withdrawn_by(phase: Phase, day: u32, w: Withdrawn) -> Applied
@@ -237,7 +229,7 @@ fn ask(
     }
 }
 
-// A record's work, with the line that it makes.
+// An item's work, with the line that it makes.
 pub fn apply(
     book: Book,
     item: Item,
@@ -256,7 +248,7 @@ pub fn apply(
     let c = book.campaign;
     match item {
         Item::Start(order, taps, slots) => begin(c, order, taps, slots, store, sums),
-        Item::Open(day) => say(Phase::Open(day, 0), c, Line::Silent),
+        Item::Open(day) => say(after_open(day), c, Line::Silent),
         Item::Sample(v) => say(take_sample(phase, v, recording), c, Line::Silent),
         Item::Enter => close(phase, c, store, sums, recording),
         Item::Withdraw(day) => withdraw_day(phase, c, day, store, sums),

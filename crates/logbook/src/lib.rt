@@ -1,4 +1,4 @@
-// What a log's records do: the state between them, and the line that each makes.
+// What a log's items do: the state between them, and the line that each makes.
 pub mod applying;
 
 use log::Phase;
@@ -10,7 +10,7 @@ pub const LOG_ORDER: u32 = 9;
 
 pub const LOG_SLOTS: u32 = 8;
 
-// The state between records, beside the memory lent.
+// The state between items, beside the memory lent.
 pub struct Book {
     pub phase: Phase,
     pub campaign: Campaign,

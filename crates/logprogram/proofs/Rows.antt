@@ -1,4 +1,4 @@
--- The lines of a response, written one behind another; and a turn, put together of a record's outcome and its text. Assumes nothing.
+-- The lines of a response, written one behind another; and a turn, put together of an item's outcome and its text. Assumes nothing.
 use mathlib.Core.Path.{_≡_}
 use mathlib.Core.Bool.{Bool, false}
 use mathlib.Core.List.{List}
@@ -10,7 +10,8 @@ use Rattle.report.specs.Lines.{rowBytes, Wrote}
 use Rattle.report.proofs.Writing.{wrote-none, wrote-more}
 use Rattle.logbook.specs.Book.{Memory}
 use Rattle.logbook.specs.declared.Applied.{Applied}
-use Rattle.logprogram.specs.Program.{Turn, rowsBytes, printed, goesOn, took}
+use Rattle.log.specs.Phases.{goesOn}
+use Rattle.logprogram.specs.Program.{Turn, rowsBytes, printed, took}
 
 pub rows-none : (r mean : List ℤ) (at : ℕ) (l : List ℕ) → Wrote (rowsBytes 0 r mean) at l at l
 unfolding rowsBytes
@@ -21,6 +22,8 @@ pub rows-more : (k : ℕ) (r mean : List ℤ) {at next last : ℕ} {l s t : List
 unfolding rowsBytes
 rows-more k r mean v w = rw (add-one k) (wrote-more v w)
 
-pub took-made : {x : Applied} {m : Memory} {o : Applied × Memory} (offset size : ℕ) → (x, m) ≡ o → (text : List ℕ) → text ≡ printed (x, m) → (g : Bool) → g ≡ goesOn (x .book .phase)
-    → _≡_ {A = Turn} (record { text = text; place = record { book = x .book; memory = m; offset = offset + size; going = g }; used = size; short = false }) (took offset size o)
+pub took-made : {x : Applied} {m : Memory} {o : Applied × Memory} (offset size : ℕ) → (x, m) ≡ o → (text : List ℕ) → text ≡ printed (x, m)
+    → (g : Bool) → g ≡ goesOn (x .book .phase)
+    → _≡_ {A = Turn} (record { text = text; place = record { book = x .book; memory = m; offset = offset + size; going = g }; used = size; short = false })
+    (took offset size o)
 took-made offset size e text t g h = rw (← e, t, h)

@@ -107,17 +107,19 @@ module _ (n k : ℕ) (p : Place) (hand : List ℕ) (reads : List (List ℕ)) (ag
       let t = turnOn p (found.Whole i used) in
       let d : drop used (hand ++ rest ended reads) ≡ drop used hand ++ rest ended reads = drop-append-le used hand (rest ended reads) fits in
       ap (λ x. t .text ++ x)
-      (again k (midway (t .place) (drop used hand) ended) reads (simp length-drop (omega arith)) (simp (length-append, length-drop) (omega (arith, simp length-append at l)))
+      (again k (midway (t .place) (drop used hand) ended) reads (simp length-drop (omega arith))
+      (simp (length-append, length-drop) (omega (arith, simp length-append at l)))
       ∙ ap (output k (t .place)) (sym d))
       ∙ sym (same-turn ended (found.Whole i used) g e refl)
   by-found ended f (short _) g e h l =
       let r = read-on p hand reads in
       again (suc k) (fed (midway p hand false) (nextRead reads)) (laterReads reads) (omega (arith, r .1)) (rw (r .0) l)
       ∙ ap (output (suc k) p) (r .0)
-  by-found ended f bad g e h l =
-      ap (λ x. badBytes (p .offset) ++ x) (session-off n (midway (stopped p) hand ended) reads refl ∙ sym (output-off k (stopped p) (hand ++ rest ended reads) refl))
+  by-found ended f (bad _) g e h l =
+      ap (λ x. badBytes (p .offset) ++ x)
+      (session-off n (midway (stopped p) hand ended) reads refl ∙ sym (output-off k (stopped p) (hand ++ rest ended reads) refl))
       ∙ sym (same-turn ended found.Bad g e refl)
-  by-found ended f end g e h l =
+  by-found ended f (end _) g e h l =
       session-off n (midway (stopped p) hand ended) reads refl ∙ sym (output-off k (stopped p) (hand ++ rest ended reads) refl)
       ∙ sym (same-turn ended found.End g e refl)
 
@@ -151,14 +153,16 @@ ran-session (taken {n = k} {text} {reads} {m} r g s) n later =
     let e : suc k + n ≡ k + suc n = omega arith in
     ap (λ i. session i outset (reads ++ later)) e
     ∙ ran-session r (suc n) later
-    ∙ ap (λ l. text ++ l) (session-on n m later g ∙ ap (λ b. cond b (session n (fed m (nextRead later)) (laterReads later)) (next m .text ++ session n (passed m) later)) s)
+    ∙ ap (λ l. text ++ l) (session-on n m later g
+    ∙ ap (λ b. cond b (session n (fed m (nextRead later)) (laterReads later)) (next m .text ++ session n (passed m) later)) s)
     ∙ sym (append-assoc text (next m .text) (session n (passed m) later))
 ran-session (more {n = k} {text} {reads} {m} r g s bytes) n later =
     let e : suc k + n ≡ k + suc n = omega arith in
     ap (λ i. session i outset ((reads ++ bytes ∷ []) ++ later)) e
     ∙ ap (session (k + suc n) outset) (append-assoc reads (bytes ∷ []) later)
     ∙ ran-session r (suc n) (bytes ∷ later)
-    ∙ ap (λ l. text ++ l) (session-on n m (bytes ∷ later) g ∙ ap (λ b. cond b (session n (fed m bytes) later) (next m .text ++ session n (passed m) (bytes ∷ later))) s)
+    ∙ ap (λ l. text ++ l) (session-on n m (bytes ∷ later) g
+    ∙ ap (λ b. cond b (session n (fed m bytes) later) (next m .text ++ session n (passed m) (bytes ∷ later))) s)
 
 module _ {n : ℕ} {text : List ℕ} {reads : List (List ℕ)} {m : Midway} (r : Ran n text reads m) (later : List (List ℕ)) where
   -- once the program has stopped, the text is that of the whole input, whatever of it is still to be read

@@ -47,18 +47,19 @@ short-idle p bytes ended = rw (turns p bytes ended) (found-short p (standsAt p b
 found-few : (p : Place) (m : ℕ) {q : Phase} {P : ℕ} (ended : Bool) (f : Found) → Stands q P m ended f → turnOn p f .short ≡ true → m ≤ 4
 found-few p m ended f (whole _ _ _ _) e = absurd (subst T (sym e) tt)
 found-few p m ended f (short few) e = few
-found-few p m ended f bad e = absurd (subst T (sym e) tt)
-found-few p m ended f end e = absurd (subst T (sym e) tt)
+found-few p m ended f (bad _) e = absurd (subst T (sym e) tt)
+found-few p m ended f (end _) e = absurd (subst T (sym e) tt)
 
 pub short-few : (p : Place) (bytes : List ℕ) (ended : Bool) → turn p bytes ended .short ≡ true → length bytes ≤ 4
 short-few p bytes ended = rw (turns p bytes ended) (found-few p (length bytes) ended (standsAt p bytes ended) (found-at p bytes ended))
 
 -- it takes at most the bytes at hand, and five
-found-bounded : (p : Place) (m : ℕ) {q : Phase} {P : ℕ} (ended : Bool) (f : Found) → Stands q P m ended f → (turnOn p f .used ≤ m) × (turnOn p f .place .offset ≤ p .offset + 5)
+found-bounded : (p : Place) (m : ℕ) {q : Phase} {P : ℕ} (ended : Bool) (f : Found) → Stands q P m ended f
+    → (turnOn p f .used ≤ m) × (turnOn p f .place .offset ≤ p .offset + 5)
 found-bounded p m ended f (whole _ some fits few) = (fits, omega arith)
 found-bounded p m ended f (short _) = (omega arith, omega arith)
-found-bounded p m ended f bad = (omega arith, omega arith)
-found-bounded p m ended f end = (omega arith, omega arith)
+found-bounded p m ended f (bad _) = (omega arith, omega arith)
+found-bounded p m ended f (end _) = (omega arith, omega arith)
 
 pub turn-bounded : (p : Place) (bytes : List ℕ) (ended : Bool) → (turn p bytes ended .used ≤ length bytes) × (turn p bytes ended .place .offset ≤ p .offset + 5)
 turn-bounded p bytes ended = rw (turns p bytes ended) (found-bounded p (length bytes) ended (standsAt p bytes ended) (found-at p bytes ended))
@@ -92,8 +93,8 @@ output-any (suc m) (suc n) p bytes h l =
     by : (f : Found) → StandsAt p bytes true f → Again m n bytes → then m bytes (turnOn p f) ≡ then n bytes (turnOn p f)
     by f (whole {i = i} {n = k} _ some fits _) again =
         ap (λ l. turnOn p (found.Whole i k) .text ++ l) (again (turnOn p (found.Whole i k) .place) k some fits)
-    by f bad again = ap (λ l. badBytes (p .offset) ++ l) (output-off m (stopped p) bytes refl ∙ sym (output-off n (stopped p) bytes refl))
-    by f end again = output-off m (stopped p) bytes refl ∙ sym (output-off n (stopped p) bytes refl)
+    by f (bad _) again = ap (λ l. badBytes (p .offset) ++ l) (output-off m (stopped p) bytes refl ∙ sym (output-off n (stopped p) bytes refl))
+    by f (end _) again = output-off m (stopped p) bytes refl ∙ sym (output-off n (stopped p) bytes refl)
 
     go : (b : Bool) → p .going ≡ b → Again m n bytes → output (suc m) p bytes ≡ output (suc n) p bytes
     go false e again = output-off (suc m) p bytes e ∙ sym (output-off (suc n) p bytes e)

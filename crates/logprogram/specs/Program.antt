@@ -1,15 +1,14 @@
 -- Document 01, "The log program", as one function: from all bytes of the input to all bytes that are printed. What stands at a place of the
--- log is crate `log`'s `decoded`, what a record does is `logbook`'s `applied`, and a line's bytes are `report`'s: here is only how they
+-- log is crate `log`'s `decoded`, what an item does is `logbook`'s `applied`, and a line's bytes are `report`'s: here is only how they
 -- follow each other. Assumes nothing.
-use mathlib.Core.List.{List, [], _∷_, _++_}
+use mathlib.Core.List.{List, [], _++_}
 use mathlib.Core.Bool.{Bool, true, false}
 use Prim.Native.Nat.{ℕ, zero, suc, _+_}
 use lib.IntN.{ℤ, pos}
 use lib.ListN.{length, take, drop, replicate}
 use Rattle.sums.specs.Lists.{at}
+use Rattle.log.specs.Phases.{goesOn}
 use Rattle.log.specs.Log.{decoded}
-use Rattle.log.specs.declared.Phase.{Phase}
-use Rattle.log.specs.declared.Phase.the-variants as phase
 use Rattle.log.specs.declared.Found.{Found}
 use Rattle.log.specs.declared.Found.the-variants as found
 use Rattle.report.specs.Lines.{lineBytes, rowBytes, badBytes}
@@ -21,14 +20,14 @@ use Rattle.logprogram.specs.declared.Turned.{Turned}
 
 -- ---- where the program stands
 
--- the state between records, the memory lent, the offset of the next kind byte, and whether the program goes on
+-- the state between items, the memory lent, the offset of the next kind byte, and whether the program goes on
 pub record Place : Type 0 where
   pub book : Book
   pub memory : Memory
   pub offset : ℕ
   pub going : Bool
 
--- at the beginning: no record yet, and zeros for the largest order and the most slots that the program takes
+-- at the beginning: no item yet, and zeros for the largest order and the most slots that the program takes
 abbrev pub zeros : ℕ → List ℤ
 zeros n = replicate n (pos 0)
 
@@ -38,7 +37,7 @@ firstMemory = memory (zeros 4088) (zeros 511) (zeros 511) (zeros 511) (zeros 511
 abbrev pub firstPlace : Place
 firstPlace = record { book = unbegunBook; memory = firstMemory; offset = 0; going = true }
 
--- ---- what a record prints: its line, and those of a response
+-- ---- what an item prints: its line, and those of a response
 
 -- the first n lines `k r mean`
 unfoldable pub rowsBytes : ℕ → List ℤ → List ℤ → List ℕ
@@ -57,14 +56,7 @@ pub record Turn : Type 0 where
   pub used : ℕ
   pub short : Bool
 
--- a refused start stops
-abbrev pub goesOn : Phase → Bool
-goesOn phase.Unbegun = true
-goesOn phase.Between = true
-goesOn (phase.Open day n) = true
-goesOn phase.Stopped = false
-
--- a record of n bytes, applied
+-- an item of n bytes, applied
 abbrev pub took : ℕ → ℕ → Applied × Memory → Turn
 took offset n o =
     record {
@@ -111,6 +103,6 @@ output (suc n) p bytes = elim (p .going) [
   | false ↦ []
 ]
 
--- what the program prints: a record takes a byte at least, so there are no more turns than bytes, and one for the end
+-- what the program prints: an item takes a byte at least, so there are no more turns than bytes, and one for the end
 unfoldable pub logOutput : List ℕ → List ℕ
 logOutput input = output (suc (length input)) firstPlace input

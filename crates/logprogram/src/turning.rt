@@ -5,8 +5,8 @@ use crate::writing::write_bad;
 use crate::writing::write_lines;
 use log::Found;
 use log::Item;
-use log::Phase;
 use log::decoding::decode;
+use log::phases::goes_on;
 use logbook::applying::apply;
 use logbook::applying::day_length;
 use logbook::applying::unbegun;
@@ -15,9 +15,9 @@ ghost use Prim.Native.Nat.{_^_, _≤_, _<_};
 ghost use lib.ListN.{length};
 ghost use Rattle.log.specs.declared.Found.the-variants.{Bad};
 ghost use Rattle.logbook.specs.Book.{Memory, memory, applied};
-ghost use Rattle.logprogram.specs.Program.{firstMemory, firstPlace, goesOn, took, turnOn, turn, placeOf, stoppedMark, turnOf};
+ghost use Rattle.logprogram.specs.Program.{firstMemory, firstPlace, took, turnOn, turn, placeOf, stoppedMark, turnOf};
 
-// Before the first record.
+// Before the first item.
 pub fn first_mark() -> Bookmark
     ensures { λ r. ⌜ placeOf r firstMemory ≡ firstPlace ⌝ }
 {
@@ -25,18 +25,6 @@ pub fn first_mark() -> Bookmark
         book: unbegun(),
         offset: 0,
         going: true,
-    }
-}
-
-// A refused start stops.
-fn goes_on(phase: Phase) -> bool
-    ensures { λ r. ⌜ r ≡ goesOn phase ⌝ }
-{
-    match phase {
-        Phase::Unbegun => true,
-        Phase::Between => true,
-        Phase::Open(_, _) => true,
-        Phase::Stopped => false,
     }
 }
 
@@ -52,8 +40,8 @@ pub fn stop(mark: Bookmark) -> Bookmark
     }
 }
 
-// A whole record is applied, and its lines are written.
-fn take_record(
+// A whole item is applied, and its lines are written.
+fn take_item(
     mark: Bookmark,
     item: Item,
     size: usize,
@@ -115,7 +103,7 @@ pub fn bad(mark: Bookmark, out: &mut [u8]) -> Turned
     }
 }
 
-// What stands at the place: a record, the end, something bad, or too few bytes to tell. The bytes are those at hand from it on.
+// What stands at the place: an item, the end, something bad, or too few bytes to tell. The bytes are those at hand from it on.
 pub fn take_turn(
     mark: Bookmark,
     bytes: &[u8],
@@ -140,7 +128,7 @@ pub fn take_turn(
     let order = campaign.order;
     let found = decode(phase, day_length(order), bytes, ended);
     match found {
-        Found::Whole(item, size) => take_record(
+        Found::Whole(item, size) => take_item(
             mark,
             item,
             size,

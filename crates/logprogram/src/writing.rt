@@ -1,4 +1,4 @@
-// What a record prints, one text behind another.
+// What an item prints, one text behind another.
 use report::Line;
 use report::Text;
 use report::printing::bad_text;
@@ -34,7 +34,7 @@ fn put_rows(rows: usize, r: &[i64], mean: &[i32], out: &mut [u8], at: usize) -> 
     next
 }
 
-// A record's line, and those that follow it.
+// An item's line, and those that follow it.
 pub fn write_lines(line: Line, rows: usize, r: &[i64], mean: &[i32], out: &mut [u8]) -> usize
     requires { ⌜ (rows ≤ length (now r)) × (rows ≤ length (now mean)) × (128 + 128 * rows ≤ length (now out)) ⌝ }
     ensures { λ x. ⌜ Wrote (lineBytes line ++ rowsBytes rows (now (r .entry)) (now (mean .entry))) 0 (now (out .entry)) x (now (out .exit)) ⌝ }

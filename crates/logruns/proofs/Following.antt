@@ -76,7 +76,8 @@ first-room =
 abbrev began : ℕ → ℕ → ℕ → ℕ → Applied × Memory
 began N taps C k =
     filing firstMemory
-    (answered k (λ n. (startedBy (record { answer = n; campaign = fresh 0 0 0 }), zeros 4088, zeros 511)) (over startedBy (startOutcome (fresh 0 0 0) N taps C (zeros 4088) (zeros 511))))
+    (answered k (λ n. (startedBy (record { answer = n; campaign = fresh 0 0 0 }), zeros 4088, zeros 511))
+    (over startedBy (startOutcome (fresh 0 0 0) N taps C (zeros 4088) (zeros 511))))
 
 -- a start of the campaign goes on or stops by its answer
 by-answer : {calls : List Call} {c : Campaign} {m : Memory} (n : ℕ) → Running calls c m → Follows calls c m (answered n (λ _. phase.Stopped) phase.Between)
@@ -88,7 +89,8 @@ began-follows : (N taps C k : ℕ) → first (logStartChecks N taps C) ≡ k
 unfolding run
 began-follows N taps C (suc k) e = stopped
 began-follows N taps C zero e =
-    let a = starting.accepted (fresh 0 0 0) N taps C (zeros 4088) (zeros 511) (omega (arith, length-replicate {A = ℤ} 4088 (pos 0))) (omega (arith, length-replicate {A = ℤ} 511 (pos 0))) e in
+    let a = starting.accepted (fresh 0 0 0) N taps C (zeros 4088) (zeros 511) (omega (arith, length-replicate {A = ℤ} 4088 (pos 0)))
+    (omega (arith, length-replicate {A = ℤ} 511 (pos 0))) e in
     by-answer (startOutcome (fresh 0 0 0) N taps C (zeros 4088) (zeros 511) .0 .answer) (record {
       going = started firstWorld N taps C [] a;
       few = subst (λ (x : Campaign). x .order ≤ 9) (sym (started-campaign firstWorld N taps C [] a)) (few-slots N taps C e);
@@ -124,7 +126,7 @@ module _ {calls : List Call} {c : Campaign} {m : Memory} (r : Running calls c m)
   pub order-few : c .order ≤ 9
   order-few = omega (arith, order-is, r .few)
 
--- ---- one record
+-- ---- one item
 
 -- the run goes on by a call, and the room is as long
 onward-running : {calls : List Call} {c d : Campaign} {m l : Memory} (r : Running calls c m) (call : Call) → run-of.starts call ≡ false
@@ -155,29 +157,31 @@ module _ (D : ℕ) (c : Campaign) (m : Memory) (offset : ℕ) (going : Bool) (ca
   abbrev standing-at : Phase → Place
   standing-at p = record { book = record { phase = p; campaign = c }; memory = m; offset = offset; going = going }
 
-  record-follows : (y : List ℤ) (p : Phase) (i : Item) (k : ℕ) → Fits D p i → Sampled y (m .recording) p → Follows calls c m p
+  item-follows : (y : List ℤ) (p : Phase) (i : Item) (k : ℕ) → Fits D p i → Sampled y (m .recording) p → Follows calls c m p
       → FollowsAt (callsOf (standing-at p) y i ++ calls) (turnOn (standing-at p) (found.Whole i k) .place)
   unfolding applied run
-  record-follows y p i k (starts {N} {taps} {C}) _ (unbegun e f g) = start-follows c m calls N taps C e f g
-  record-follows y p i k opens _ (between r) = inside r
-  record-follows y p i k (withdraws {d}) _ (between r) = between (onward-running r (withdraw d) refl (ap (λ w. after w (withdraw d)) (r .world)) (r .room))
-  record-follows y p i k asks _ (between r) =
-      let asked : Running (response (m .r) (m .mean) (m .room) (m .tags) ∷ calls) c m = onward-running r (response (m .r) (m .mean) (m .room) (m .tags)) refl (r .world) (r .room) in
+  item-follows y p i k (starts {N} {taps} {C}) _ (unbegun e f g) = start-follows c m calls N taps C e f g
+  item-follows y p i k opens _ (between r) = inside r
+  item-follows y p i k (withdraws {d}) _ (between r) = between (onward-running r (withdraw d) refl (ap (λ w. after w (withdraw d)) (r .world)) (r .room))
+  item-follows y p i k asks _ (between r) =
+      let ask = response (m .r) (m .mean) (m .room) (m .tags) in
+      let asked : Running (ask ∷ calls) c m = onward-running r ask refl (r .world) (r .room) in
       between (onward-running asked counts refl (r .world) (asked-room c (m .store) (m .sums) (m .r) (m .mean) (m .room) (m .tags) (order-few r) (r .room)))
-  record-follows y p i k (samples {d} {n} {v} h) _ (inside r) = sample-follows c m calls d n v (ltb n (length (m .recording))) r
-  record-follows y p i k (enters {d} {n}) (recording.inside e) (inside r) =
+  item-follows y p i k (samples {d} {n} {v} h) _ (inside r) = sample-follows c m calls d n v (ltb n (length (m .recording))) r
+  item-follows y p i k (enters {d} {n}) (recording.inside e) (inside r) =
       rw (← e) (between (onward-running r (enter d (take n (m .recording))) refl (ap (λ w. after w (enter d (take n (m .recording)))) (r .world)) (r .room)))
 
--- ---- all records
+-- ---- all items
 
 turn-follows : (p : Place) (bytes : List ℕ) (y : List ℤ) (calls : List Call) (f : Found) → StandsAt p bytes true f → SampledAt y p → FollowsAt calls p
     → FollowsAt (callsAt p y f ++ calls) (turnOn p f .place)
 turn-follows p bytes y calls f (whole {i = i} {n = k} fit _ _ _) h s =
-    record-follows (dayLength (p .book .campaign .order)) (p .book .campaign) (p .memory) (p .offset) (p .going) calls y (p .book .phase) i k fit (h .day) s
-turn-follows p bytes y calls f bad h s = s
-turn-follows p bytes y calls f end h s = s
+    item-follows (dayLength (p .book .campaign .order)) (p .book .campaign) (p .memory) (p .offset) (p .going) calls y (p .book .phase) i k fit (h .day) s
+turn-follows p bytes y calls f (bad _) h s = s
+turn-follows p bytes y calls f (end _) h s = s
 
-going-follows : (s : Reached) (b : Bool) → SampledAt (s .samples) (s .place) → FollowsAt (s .calls) (s .place) → FollowsAt (cond b (onward s) s .calls) (cond b (onward s) s .place)
+going-follows : (s : Reached) (b : Bool) → SampledAt (s .samples) (s .place) → FollowsAt (s .calls) (s .place)
+    → FollowsAt (cond b (onward s) s .calls) (cond b (onward s) s .place)
 going-follows s false h f = f
 going-follows s true h f =
     rw (turns (s .place) (s .left) true)

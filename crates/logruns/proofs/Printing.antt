@@ -44,8 +44,8 @@ found-offset p bytes ended f s = go ended f s
         → turnOn p f .place .offset + length (drop (turnOn p f .used) bytes) ≡ p .offset + length bytes
     go ended f (whole {n = k} _ _ fits _) = simp length-drop (omega arith)
     go ended f (short _) = refl
-    go ended f bad = refl
-    go ended f end = refl
+    go ended f (bad _) = refl
+    go ended f (end _) = refl
 
 onward-offset : (s : Reached) (b : Bool) → cond b (onward s) s .place .offset + length (cond b (onward s) s .left) ≡ s .place .offset + length (s .left)
 onward-offset s false = refl

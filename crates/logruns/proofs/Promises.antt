@@ -18,7 +18,8 @@ use Rattle.response.specs.Response.{prediction}
 use Rattle.records.specs.Record.{unseen, standing, overloaded, dead, withdrawn, daysIn, together, marked}
 use Rattle.records.specs.declared.Campaign.{Campaign}
 use Rattle.records.proofs.Refiling.{Day}
-use Rattle.campaign.specs.Calls.{enterChecks, withdrawChecks, railPlace, still, entered, keptOutcome, judgedOutcome, withdrawnOutcome, enterOutcome, withdrawOutcome, verdictNumber}
+use Rattle.campaign.specs.Calls.{enterChecks, withdrawChecks, railPlace, still, entered, keptOutcome, judgedOutcome, withdrawnOutcome}
+use Rattle.campaign.specs.Calls.{enterOutcome, withdrawOutcome, verdictNumber}
 use Rattle.campaign.specs.declared.Entered.{Entered}
 use Rattle.campaign.specs.declared.Withdrawn.{Withdrawn}
 use Rattle.campaign.specs.declared.Verdict.the-variants as verdict
@@ -74,7 +75,7 @@ module _ {calls : List Call} {c : Campaign} {m : Memory} (r : Running calls c m)
       (λ n. (entered c d (verdict.Refused n), m .store, m .sums)) (judgedOutcome c (m .store) (m .sums) d y)
       (λ o. verdictNumber (o .0 .entry .verdict) ≡ 6 → ⊥)
       (λ n _ h g. not-first 6 (enterChecks c (m .store) (m .sums) d y) tt (h ∙ g))
-      (λ _. by-rail (ltb (railPlace y) (length y)) (still y) (eqb (daysIn c standing) (c .slots)))
+      (λ _. by-rail (ltb (railPlace y) (length y)) (still y) (eqb (daysIn c standing) (c .capacity)))
     where
       by-rail : (a b e : Bool)
           → verdictNumber (cond a (entered (marked c d overloaded) d (verdict.Overloaded (railPlace y)), m .store, m .sums)
@@ -103,16 +104,27 @@ module _ {calls : List Call} {c : Campaign} {m : Memory} (r : Running calls c m)
       p : P (c .order) ≤ 511
       p = omega (arith, pow-mono (order-few r))
 
-      roomy : ltb (length (m .r)) (P (c .order)) || ltb (length (m .mean)) (P (c .order)) || (ltb (length (m .room)) (P (c .order) + 1) || ltb (length (m .tags)) (2 * P (c .order))) ≡ false
+      roomy : ltb (length (m .r)) (P (c .order)) || ltb (length (m .mean)) (P (c .order))
+          || (ltb (length (m .room)) (P (c .order) + 1) || ltb (length (m .tags)) (2 * P (c .order))) ≡ false
       roomy =
-          simp (le-ltb (length (m .r)) (P (c .order)) (omega (arith, p, r .room .r-long)), le-ltb (length (m .mean)) (P (c .order)) (omega (arith, p, r .room .mean-long)), le-ltb (length (m .room)) (P (c .order) + 1) (omega (arith, p, r .room .room-long)), le-ltb (length (m .tags)) (2 * P (c .order)) (omega (arith, p, r .room .tags-long)))
+          simp (
+            le-ltb (length (m .r)) (P (c .order)) (omega (arith, p, r .room .r-long)),
+            le-ltb (length (m .mean)) (P (c .order)) (omega (arith, p, r .room .mean-long)),
+            le-ltb (length (m .room)) (P (c .order) + 1) (omega (arith, p, r .room .room-long)),
+            le-ltb (length (m .tags)) (2 * P (c .order)) (omega (arith, p, r .room .tags-long)),
+          )
 
       go : (a b : Bool) → first ((15, a) ∷ (6, false) ∷ (14, b) ∷ []) ≡ 6 → ⊥
       go true b h = omega arith
       go false true h = omega arith
       go false false h = omega arith
 
-      enough : (a b : Bool) → first ((15, a) ∷ (6, ltb (length (m .r)) (P (c .order)) || ltb (length (m .mean)) (P (c .order)) || (ltb (length (m .room)) (P (c .order) + 1) || ltb (length (m .tags)) (2 * P (c .order)))) ∷ (14, b) ∷ []) ≡ 6 → ⊥
+      enough : (a b : Bool)
+          → first ((15, a) ∷ (
+            6,
+            ltb (length (m .r)) (P (c .order)) || ltb (length (m .mean)) (P (c .order))
+                || (ltb (length (m .room)) (P (c .order) + 1) || ltb (length (m .tags)) (2 * P (c .order))),
+          ) ∷ (14, b) ∷ []) ≡ 6 → ⊥
       enough a b h = go a b (sym (ap (λ x. first ((15, a) ∷ (6, x) ∷ (14, b) ∷ [])) roomy) ∙ h)
 
 -- ---- no line says 15 or 6
@@ -128,17 +140,17 @@ module _ (D : ℕ) (c : Campaign) (m : Memory) (calls : List Call) where
       (never-six c N taps C (m .store) (m .sums) (omega (arith, ap (λ (x : Memory). length (x .store)) f, length-replicate {A = ℤ} 4088 (pos 0)))
       (omega (arith, ap (λ (x : Memory). length (x .sums)) f, length-replicate {A = ℤ} 511 (pos 0))))
 
-  record-number : (p : Phase) (i : Item) → Fits D p i → Follows calls c m p → (number p i ≡ 15 → ⊥) × (number p i ≡ 6 → ⊥)
+  item-number : (p : Phase) (i : Item) → Fits D p i → Follows calls c m p → (number p i ≡ 15 → ⊥) × (number p i ≡ 6 → ⊥)
   unfolding applied
-  record-number p i (starts {N} {taps} {C}) (unbegun e f g) = (
+  item-number p i (starts {N} {taps} {C}) (unbegun e f g) = (
     λ h. not-first 15 (logStartChecks N taps C) tt (sym (start-number N taps C f) ∙ h),
     λ h. not-first 6 (logStartChecks N taps C) tt (sym (start-number N taps C f) ∙ h),
   )
-  record-number p i opens (between r) = (λ h. omega arith, λ h. omega arith)
-  record-number p i (withdraws {d}) (between r) = (no-fifteen r (withdraw d), withdrawal-no-six r d)
-  record-number p i asks (between r) = (no-fifteen r (response (m .r) (m .mean) (m .room) (m .tags)), response-no-six r)
-  record-number p i (samples h) (inside r) = (λ h. omega arith, λ h. omega arith)
-  record-number p i (enters {d} {n}) (inside r) = (no-fifteen r (enter d (take n (m .recording))), entry-no-six r d (take n (m .recording)))
+  item-number p i opens (between r) = (λ h. omega arith, λ h. omega arith)
+  item-number p i (withdraws {d}) (between r) = (no-fifteen r (withdraw d), withdrawal-no-six r d)
+  item-number p i asks (between r) = (no-fifteen r (response (m .r) (m .mean) (m .room) (m .tags)), response-no-six r)
+  item-number p i (samples h) (inside r) = (λ h. omega arith, λ h. omega arith)
+  item-number p i (enters {d} {n}) (inside r) = (no-fifteen r (enter d (take n (m .recording))), entry-no-six r d (take n (m .recording)))
 
 module _ (n : ℕ) (input : List ℕ) where
   abbrev pub here : Place
@@ -150,7 +162,8 @@ module _ (n : ℕ) (input : List ℕ) where
 
     numbers : (lineNumber (applied (here .book) i (here .memory) .0 .line) ≡ 15 → ⊥) × (lineNumber (applied (here .book) i (here .memory) .0 .line) ≡ 6 → ⊥)
     numbers =
-        record-number (dayLength (here .book .campaign .order)) (here .book .campaign) (here .memory) (reached n input .calls) (here .book .phase) i fits (follows n input)
+        item-number (dayLength (here .book .campaign .order)) (here .book .campaign) (here .memory) (reached n input .calls)
+        (here .book .phase) i fits (follows n input)
 
     pub never-says-15 : lineNumber (applied (here .book) i (here .memory) .0 .line) ≡ 15 → ⊥
     never-says-15 = numbers .0
@@ -212,7 +225,8 @@ module _ {calls : List Call} {c : Campaign} {m : Memory} (r : Running calls c m)
 -- an ask stands after n turns
 module _ (n : ℕ) (input : List ℕ) (k : ℕ) (stands : standsAt (here n input) (reached n input .left) true ≡ found.Whole item.Ask k) where
   -- the run that its calls are
-  outside : (p : Phase) → Fits (dayLength (here n input .book .campaign .order)) p item.Ask → Follows (reached n input .calls) (here n input .book .campaign) (here n input .memory) p
+  outside : (p : Phase) → Fits (dayLength (here n input .book .campaign .order)) p item.Ask
+      → Follows (reached n input .calls) (here n input .book .campaign) (here n input .memory) p
       → Running (reached n input .calls) (here n input .book .campaign) (here n input .memory)
   outside p asks (between r) = r
 
@@ -230,9 +244,11 @@ module _ (n : ℕ) (input : List ℕ) (k : ℕ) (stands : standsAt (here n input
 
   -- it prints the counts that the history says
   pub prints-counts : said
-      ≡ responseLine (answer (worldOf (here n input)) (response (here n input .memory .r) (here n input .memory .mean) (here n input .memory .room) (here n input .memory .tags))) (historyTally run-here)
+      ≡ responseLine (answer (worldOf (here n input)) (response (here n input .memory .r) (here n input .memory .mean) (here n input .memory .room)
+      (here n input .memory .tags))) (historyTally run-here)
       ++ rowsBytes (askedHere .0 .rows) (askedHere .1 .r) (askedHere .1 .mean)
-  prints-counts = text-is ∙ ap (λ l. lineBytes l ++ rowsBytes (askedHere .0 .rows) (askedHere .1 .r) (askedHere .1 .mean)) (counts-said run-here (here n input .book .phase))
+  prints-counts = text-is ∙ ap (λ l. lineBytes l ++ rowsBytes (askedHere .0 .rows) (askedHere .1 .r) (askedHere .1 .mean))
+      (counts-said run-here (here n input .book .phase))
 
   -- and where some day stands and the recordings then standing are convolutions of whole-number responses, (P+1) times the sum of these
   module _ (h : ℕ → ℕ → ℤ)
@@ -246,6 +262,7 @@ module _ (n : ℕ) (input : List ℕ) (k : ℕ) (stands : standsAt (here n input
         let q = recovered run-here h convolved d y e in (
           prints-counts
               ∙ ap (λ a. responseLine a (historyTally run-here) ++ rowsBytes (askedHere .0 .rows) (askedHere .1 .r) (askedHere .1 .mean)) (q .0)
-              ∙ ap (λ a. responseLine 0 (historyTally run-here) ++ rowsBytes a (askedHere .1 .r) (askedHere .1 .mean)) (rows-said run-here (here n input .book .phase) 0 refl (q .0)),
+              ∙ ap (λ a. responseLine 0 (historyTally run-here) ++ rowsBytes a (askedHere .1 .r) (askedHere .1 .mean))
+              (rows-said run-here (here n input .book .phase) 0 refl (q .0)),
           q .1,
         )

@@ -38,7 +38,7 @@ pub record SampledAt (y : List ℤ) (p : Place) : Type 0 where
   pub room : length (p .memory .recording) ≡ 511
   pub day : Sampled y (p .memory .recording) (p .book .phase)
 
--- ---- one record
+-- ---- one item
 
 -- a day of the program has room
 day-fits : (N : ℕ) → dayLength N ≤ 511
@@ -64,33 +64,37 @@ module _ (y : List ℤ) (c : Campaign) (m : Memory) where
   sample-put : (d n : ℕ) (v : ℤ) → n < length (m .recording) → take n (m .recording) ≡ y
       → let o = putSample d n v (m .recording) in (length (o .1) ≡ length (m .recording)) × Sampled (y ++ v ∷ []) (o .1) (o .0)
   sample-put d n v h e =
-      rw (lt-ltb n (length (m .recording)) h)
-      (length-set (m .recording) n v, inside (ap (λ k. take k (set (m .recording) n v)) (add-one n) ∙ take-suc-set (m .recording) n v h ∙ ap (λ z. z ++ v ∷ []) e))
+      rw (lt-ltb n (length (m .recording)) h) (
+        length-set (m .recording) n v,
+        inside (ap (λ k. take k (set (m .recording) n v)) (add-one n)
+            ∙ take-suc-set (m .recording) n v h ∙ ap (λ z. z ++ v ∷ []) e),
+      )
 
-  record-samples : {D : ℕ} (p : Phase) (i : Item) → Fits D p i → D ≤ length (m .recording) → Sampled y (m .recording) p
+  item-samples : {D : ℕ} (p : Phase) (i : Item) → Fits D p i → D ≤ length (m .recording) → Sampled y (m .recording) p
       → let o = applied (record { phase = p; campaign = c }) i m in
       (length (o .1 .recording) ≡ length (m .recording)) × Sampled (samplesOf y i) (o .1 .recording) (o .0 .book .phase)
   unfolding applied
-  record-samples p i (starts {N} {taps} {C}) l s = (refl, start-closed N taps C)
-  record-samples p i opens l s = (refl, inside refl)
-  record-samples p i withdraws l s = (refl, between)
-  record-samples p i asks l s = (refl, between)
-  record-samples p i (samples {d} {n} {v} h) l (inside e) = sample-put d n v (omega arith) e
-  record-samples p i enters l s = (refl, between)
+  item-samples p i (starts {N} {taps} {C}) l s = (refl, start-closed N taps C)
+  item-samples p i opens l s = (refl, inside refl)
+  item-samples p i withdraws l s = (refl, between)
+  item-samples p i asks l s = (refl, between)
+  item-samples p i (samples {d} {n} {v} h) l (inside e) = sample-put d n v (omega arith) e
+  item-samples p i enters l s = (refl, between)
 
--- ---- all records
+-- ---- all items
 
 found-samples : (p : Place) (bytes : List ℕ) (y : List ℤ) (f : Found) → StandsAt p bytes true f → SampledAt y p → SampledAt (samplesAt y f) (turnOn p f .place)
 found-samples p bytes y f (whole {i = i} fit _ _ _) s =
-    let o = record-samples y (p .book .campaign) (p .memory) (p .book .phase) i fit (omega (arith, day-fits (p .book .campaign .order), s .room)) (s .day) in
+    let o = item-samples y (p .book .campaign) (p .memory) (p .book .phase) i fit (omega (arith, day-fits (p .book .campaign .order), s .room)) (s .day) in
     record { room = o .0 ∙ s .room; day = o .1 }
-found-samples p bytes y f bad s = record { room = s .room; day = s .day }
-found-samples p bytes y f end s = record { room = s .room; day = s .day }
+found-samples p bytes y f (bad _) s = record { room = s .room; day = s .day }
+found-samples p bytes y f (end _) s = record { room = s .room; day = s .day }
 
 going-samples : (s : Reached) (b : Bool) → SampledAt (s .samples) (s .place) → SampledAt (cond b (onward s) s .samples) (cond b (onward s) s .place)
 going-samples s false h = h
 going-samples s true h =
-    rw (turns (s .place) (s .left) true) (found-samples (s .place) (s .left) (s .samples) (standsAt (s .place) (s .left) true) (found-at (s .place) (s .left) true) h)
+    rw (turns (s .place) (s .left) true)
+    (found-samples (s .place) (s .left) (s .samples) (standsAt (s .place) (s .left) true) (found-at (s .place) (s .left) true) h)
 
 pub samples-held : (n : ℕ) (input : List ℕ) → SampledAt (reached n input .samples) (reached n input .place)
 unfolding reached

@@ -43,7 +43,7 @@ samplesAt y found.Short = y
 samplesAt y found.Bad = y
 samplesAt y found.End = y
 
--- ---- the calls that a record makes, the latest first
+-- ---- the calls that an item makes, the latest first
 
 -- the open day is entered with the samples that came
 abbrev pub entry : Phase → List ℤ → List Call

@@ -16,7 +16,7 @@ use Rattle.sums.proofs.First.{refused-first, passes, or-false}
 use Rattle.register.specs.Register.{P}
 use Rattle.register.specs.Calls.{tapsChecks, tapsAnswer}
 use Rattle.register.proofs.Judged.{accepted-exactly}
-use Rattle.response.specs.Calls.{clearedWide}
+use Rattle.samples.specs.Samples.{clearedWide}
 use Rattle.records.specs.Record.{fresh}
 use Rattle.campaign.specs.declared.Started.{Started}
 use Rattle.campaign.specs.Calls.{slotsOut, startChecks, startOutcome}
@@ -25,7 +25,7 @@ use Rattle.meter.proofs.Opening.{long, put-backs}
 
 -- what a start comes to, behind the door
 abbrev pub startedOut : List ℕ → List ℕ → Started × List ℤ × List ℤ → ℕ × List ℕ × List ℕ × List ℤ × List ℤ
-startedOut days slots (s, store, sums) = (s .answer, put (s .campaign .days) days, put (s .campaign .table) slots, store, sums)
+startedOut days slots (s, store, sums) = (s .answer, put (s .campaign .days) days, put (s .campaign .slots) slots, store, sums)
 
 no-memory : (N taps C : ℕ) → tapsAnswer N taps ≡ 0 → ltb 0 (C * P N) || ltb 0 (P N) ≡ true
 no-memory N taps C z =
@@ -38,7 +38,7 @@ module _ (N taps C : ℕ) (days slots : List ℕ) (store sums : List ℤ) where
   back n = (n, days, slots, store, sums)
 
   abbrev made : ℕ × List ℕ × List ℕ × List ℤ × List ℤ
-  made = (0, put (fresh N taps C .days) days, put (fresh N taps C .table) slots, clearedWide (C * P N) store, clearedWide (P N) sums)
+  made = (0, put (fresh N taps C .days) days, put (fresh N taps C .slots) slots, clearedWide (C * P N) store, clearedWide (P N) sums)
 
   abbrev memoryShort : Bool
   memoryShort = ltb (length store) (C * P N) || ltb (length sums) (P N)

@@ -1,4 +1,4 @@
--- The doors of the campaign's calls: the record crosses as its order, taps and slot count and two lent tables, `days` of 366 and `slots` of 64,
+-- The doors of the campaign's calls: the record crosses as its order, taps and capacity and two lent tables, `days` of 366 and `slots` of 64,
 -- and each door is the call's own outcome function between them. At a start a shorter table is room too short, 6 in its place; at every other call
 -- it is refused with 15, before the call's checks. Either way nothing is touched; a longer table keeps its tail. Assumes nothing.
 use mathlib.Core.List.{List, [], _∷_, _++_}
@@ -11,7 +11,7 @@ use Rattle.sums.specs.Lists.{put}
 use Rattle.sums.specs.Refusals.{outcome, meant}
 use Rattle.register.specs.Register.{P}
 use Rattle.register.specs.Calls.{tapsChecks}
-use Rattle.response.specs.Calls.{clearedWide}
+use Rattle.samples.specs.Samples.{clearedWide}
 use Rattle.records.specs.Record.{fresh}
 use Rattle.records.specs.declared.Campaign.{Campaign}
 use Rattle.campaign.specs.declared.Entered.{Entered}
@@ -31,7 +31,7 @@ tablesShort days slots = ltb (length days) 366 || ltb (length slots) 64
 
 -- the record that the caller lends
 abbrev pub recordOf : ℕ → ℕ → ℕ → List ℕ → List ℕ → Campaign
-recordOf N taps C days slots = record { order = N; taps = taps; slots = C; days = take 366 days; table = take 64 slots }
+recordOf N taps C days slots = record { order = N; taps = taps; capacity = C; days = take 366 days; slots = take 64 slots }
 
 -- 15: a door behind that check
 abbrev pub behind : {A : Type 0} → List ℕ → List ℕ → (ℕ → A) → A → A
@@ -51,7 +51,7 @@ startDoor N taps C days slots store sums =
     outcome (startDoorChecks N taps C days slots store sums) (λ n. (n, days, slots, store, sums)) (
       0,
       put (fresh N taps C .days) days,
-      put (fresh N taps C .table) slots,
+      put (fresh N taps C .slots) slots,
       clearedWide (C * P N) store,
       clearedWide (P N) sums,
     )
@@ -62,7 +62,7 @@ abbrev pub enteredOut : List ℕ → List ℕ → ℕ → ℕ → Entered × Lis
 enteredOut days slots state value (e, store, sums) = (
   verdictNumber (e .entry .verdict),
   put (e .campaign .days) days,
-  put (e .campaign .table) slots,
+  put (e .campaign .slots) slots,
   store,
   sums,
   verdictMeans (e .entry .verdict) .1 (state, value) .0,
@@ -77,7 +77,7 @@ enterDoor N taps C days slots store sums d y state value =
 -- ---- withdraw
 
 abbrev pub withdrawnOut : List ℕ → List ℕ → Withdrawn × List ℤ × List ℤ → ℕ × List ℕ × List ℕ × List ℤ × List ℤ
-withdrawnOut days slots (w, store, sums) = (w .answer, put (w .campaign .days) days, put (w .campaign .table) slots, store, sums)
+withdrawnOut days slots (w, store, sums) = (w .answer, put (w .campaign .days) days, put (w .campaign .slots) slots, store, sums)
 
 unfoldable pub withdrawDoor : ℕ → ℕ → ℕ → List ℕ → List ℕ → List ℤ → List ℤ → ℕ → ℕ × List ℕ × List ℕ × List ℤ × List ℤ
 withdrawDoor N taps C days slots store sums d =

@@ -11,7 +11,7 @@ use campaign::starting::start_refusal;
 use campaign::withdrawing::withdraw;
 use trend::answering::response;
 use trend::counting::counts;
-use trend::summing::summary;
+use trend::summarising::summary;
 ghost use mathlib.Core.Path.{_≡_};
 ghost use Rattle.meter.specs.Doors.{startDoor, enterDoor, withdrawDoor, countsDoor, responseDoor, summaryDoor};
 
@@ -20,20 +20,20 @@ ghost use Rattle.meter.specs.Doors.{startDoor, enterDoor, withdrawDoor, 
 pub extern "C" fn meter_start(
     order: u32,
     taps: u32,
-    count: u32,
+    capacity: u32,
     days: &mut [u8],
     slots: &mut [u16],
     store: &mut [i32],
     sums: &mut [i64],
 ) -> u32
     ensures { λ r. ⌜ (r, now (days .exit), now (slots .exit), now (store .exit), now (sums .exit))
-        ≡ startDoor order taps count (now (days .entry)) (now (slots .entry)) (now (store .entry)) (now (sums .entry)) ⌝ }
+        ≡ startDoor order taps capacity (now (days .entry)) (now (slots .entry)) (now (store .entry)) (now (sums .entry)) ⌝ }
 {
     if tables_short(days.len(), slots.len()) {
-        return start_refusal(order, taps, count, 0, 0);
+        return start_refusal(order, taps, capacity, 0, 0);
     }
-    let c = read_record(order, taps, count, days, slots);
-    let started = start(c, order, taps, count, store, sums);
+    let c = read_record(order, taps, capacity, days, slots);
+    let started = start(c, order, taps, capacity, store, sums);
     let made = started.campaign;
     write_record(made, days, slots);
     started.answer
@@ -43,7 +43,7 @@ pub extern "C" fn meter_start(
 pub extern "C" fn meter_enter(
     order: u32,
     taps: u32,
-    count: u32,
+    capacity: u32,
     days: &mut [u8],
     slots: &mut [u16],
     store: &mut [i32],
@@ -54,13 +54,13 @@ pub extern "C" fn meter_enter(
     value: &mut usize,
 ) -> u32
     ensures { λ r. ⌜ (r, now (days .exit), now (slots .exit), now (store .exit), now (sums .exit), now (state .exit), now (value .exit))
-        ≡ enterDoor order taps count (now (days .entry)) (now (slots .entry)) (now (store .entry)) (now (sums .entry)) day (now (y .entry))
+        ≡ enterDoor order taps capacity (now (days .entry)) (now (slots .entry)) (now (store .entry)) (now (sums .entry)) day (now (y .entry))
         (now (state .entry)) (now (value .entry)) ⌝ }
 {
     if tables_short(days.len(), slots.len()) {
         return 15;
     }
-    let c = read_record(order, taps, count, days, slots);
+    let c = read_record(order, taps, capacity, days, slots);
     let entered = enter(c, store, sums, day, y);
     let made = entered.campaign;
     write_record(made, days, slots);
@@ -73,7 +73,7 @@ pub extern "C" fn meter_enter(
 pub extern "C" fn meter_withdraw(
     order: u32,
     taps: u32,
-    count: u32,
+    capacity: u32,
     days: &mut [u8],
     slots: &mut [u16],
     store: &mut [i32],
@@ -81,12 +81,12 @@ pub extern "C" fn meter_withdraw(
     day: u32,
 ) -> u32
     ensures { λ r. ⌜ (r, now (days .exit), now (slots .exit), now (store .exit), now (sums .exit))
-        ≡ withdrawDoor order taps count (now (days .entry)) (now (slots .entry)) (now (store .entry)) (now (sums .entry)) day ⌝ }
+        ≡ withdrawDoor order taps capacity (now (days .entry)) (now (slots .entry)) (now (store .entry)) (now (sums .entry)) day ⌝ }
 {
     if tables_short(days.len(), slots.len()) {
         return 15;
     }
-    let c = read_record(order, taps, count, days, slots);
+    let c = read_record(order, taps, capacity, days, slots);
     let withdrawn = withdraw(c, store, sums, day);
     let made = withdrawn.campaign;
     write_record(made, days, slots);
@@ -97,7 +97,7 @@ pub extern "C" fn meter_withdraw(
 pub extern "C" fn meter_response(
     order: u32,
     taps: u32,
-    count: u32,
+    capacity: u32,
     days: &[u8],
     slots: &[u16],
     store: &[i32],
@@ -108,13 +108,13 @@ pub extern "C" fn meter_response(
     tags: &mut [u16],
 ) -> u32
     ensures { λ x. ⌜ (x, now (r .exit), now (mean .exit), now (room .exit), now (tags .exit))
-        ≡ responseDoor order taps count (now (days .entry)) (now (slots .entry)) (now (store .entry)) (now (sums .entry))
+        ≡ responseDoor order taps capacity (now (days .entry)) (now (slots .entry)) (now (store .entry)) (now (sums .entry))
         (now (r .entry)) (now (mean .entry)) (now (room .entry)) (now (tags .entry)) ⌝ }
 {
     if tables_short(days.len(), slots.len()) {
         return 15;
     }
-    let c = read_record(order, taps, count, days, slots);
+    let c = read_record(order, taps, capacity, days, slots);
     response(c, store, sums, r, mean, room, tags)
 }
 
@@ -122,7 +122,7 @@ pub extern "C" fn meter_response(
 pub extern "C" fn meter_counts(
     order: u32,
     taps: u32,
-    count: u32,
+    capacity: u32,
     days: &[u8],
     slots: &[u16],
     store: &[i32],
@@ -134,13 +134,13 @@ pub extern "C" fn meter_counts(
     withdrawn: &mut u32,
 ) -> u32
     ensures { λ r. ⌜ (r, record { unseen = now (unseen .exit); standing = now (standing .exit); overloaded = now (overloaded .exit); dead = now (dead .exit); withdrawn = now (withdrawn .exit) })
-        ≡ countsDoor order taps count (now (days .entry)) (now (slots .entry)) (now (store .entry)) (now (sums .entry))
+        ≡ countsDoor order taps capacity (now (days .entry)) (now (slots .entry)) (now (store .entry)) (now (sums .entry))
         (record { unseen = now (unseen .entry); standing = now (standing .entry); overloaded = now (overloaded .entry); dead = now (dead .entry); withdrawn = now (withdrawn .entry) }) ⌝ }
 {
     if tables_short(days.len(), slots.len()) {
         return 15;
     }
-    let c = read_record(order, taps, count, days, slots);
+    let c = read_record(order, taps, capacity, days, slots);
     let counted = counts(c, store, sums);
     write_counts(counted, unseen, standing, overloaded, dead, withdrawn)
 }
@@ -149,7 +149,7 @@ pub extern "C" fn meter_counts(
 pub extern "C" fn meter_summary(
     order: u32,
     taps: u32,
-    count: u32,
+    capacity: u32,
     days: &[u8],
     slots: &[u16],
     store: &[i32],
@@ -162,14 +162,14 @@ pub extern "C" fn meter_summary(
     peak: &mut f64,
 ) -> u32
     ensures { λ x. ⌜ (x, now (room .exit), now (tags .exit), now (stands .exit), record { highest = now (highest .exit); lowest = now (lowest .exit); peak = now (peak .exit) })
-        ≡ summaryDoor order taps count (now (days .entry)) (now (slots .entry)) (now (store .entry)) (now (sums .entry))
+        ≡ summaryDoor order taps capacity (now (days .entry)) (now (slots .entry)) (now (store .entry)) (now (sums .entry))
         (now (room .entry)) (now (tags .entry)) (now (stands .entry))
         (record { highest = now (highest .entry); lowest = now (lowest .entry); peak = now (peak .entry) }) ⌝ }
 {
     if tables_short(days.len(), slots.len()) {
         return 15;
     }
-    let c = read_record(order, taps, count, days, slots);
+    let c = read_record(order, taps, capacity, days, slots);
     let found = summary(c, store, sums, room, tags);
     write_summary(found, stands, highest, lowest, peak)
 }

@@ -1,6 +1,7 @@
 // The doors of one recording and of a prediction, with a room of its own and with one that is lent.
 ghost use mathlib.Core.Path.{_≡_};
-ghost use Rattle.response.specs.Calls.{recordingOutcome, predictionOutcome, roomedOutcome};
+ghost use Rattle.response.specs.Calls.{recordingOutcome};
+ghost use Rattle.prediction.specs.Calls.{predictionOutcome, roomedOutcome};
 
 #[no_mangle]
 pub extern "C" fn meter_recording(
@@ -21,7 +22,7 @@ pub extern "C" fn meter_recording(
 pub extern "C" fn meter_predict(order: u32, taps: u32, h: &[i32], out: &mut [i32]) -> u32
     ensures { λ r. ⌜ (r, now (out .exit)) ≡ predictionOutcome order taps (now (h .entry)) (now (out .entry)) ⌝ }
 {
-    response::predict(order, taps, h, out)
+    prediction::predict(order, taps, h, out)
 }
 
 #[no_mangle]
@@ -35,5 +36,5 @@ pub extern "C" fn meter_predict_in_room(
     ensures { λ r. ⌜ (r, now (out .exit), now (room .exit))
         ≡ roomedOutcome order taps (now (h .entry)) (now (out .entry)) (now (room .entry)) ⌝ }
 {
-    response::predict_in_room(order, taps, h, out, room)
+    prediction::predict_in_room(order, taps, h, out, room)
 }

@@ -42,9 +42,9 @@ fn copy_slots(from: &[u16], to: &mut [u16])
 }
 
 // The record of three numbers and two tables.
-pub fn read_record(order: u32, taps: u32, count: u32, days: &[u8], slots: &[u16]) -> Campaign
+pub fn read_record(order: u32, taps: u32, capacity: u32, days: &[u8], slots: &[u16]) -> Campaign
     requires { ⌜ (366 ≤ length (now days)) × (64 ≤ length (now slots)) ⌝ }
-    ensures { λ r. ⌜ r ≡ recordOf order taps count (now (days .entry)) (now (slots .entry)) ⌝ }
+    ensures { λ r. ⌜ r ≡ recordOf order taps capacity (now (days .entry)) (now (slots .entry)) ⌝ }
 {
     let mut own_days = [UNSEEN; DAYS];
     let mut own_slots = [FREE; SLOTS];
@@ -53,19 +53,19 @@ pub fn read_record(order: u32, taps: u32, count: u32, days: &[u8], slots: &[u16]
     Campaign {
         order,
         taps,
-        slots: count,
+        capacity,
         days: own_days,
-        table: own_slots,
+        slots: own_slots,
     }
 }
 
 // The record's tables in the place of the lent ones.
 pub fn write_record(c: Campaign, days: &mut [u8], slots: &mut [u16])
     requires { ⌜ (366 ≤ length (now days)) × (64 ≤ length (now slots)) ⌝ }
-    ensures { λ _. ⌜ (now (days .exit) ≡ put (c .days) (now (days .entry))) × (now (slots .exit) ≡ put (c .table) (now (slots .entry))) ⌝ }
+    ensures { λ _. ⌜ (now (days .exit) ≡ put (c .days) (now (days .entry))) × (now (slots .exit) ≡ put (c .slots) (now (slots .entry))) ⌝ }
 {
     let own_days = c.days;
-    let own_slots = c.table;
+    let own_slots = c.slots;
     copy_days(&own_days, days);
     copy_slots(&own_slots, slots);
 }

@@ -32,7 +32,8 @@ none-is [] = refl
 none-is (b ∷ l) = ne-eqb (suc (length l)) 0 (λ e. omega arith)
 
 -- the bytes at hand are at the front of the buffer, and the n first of what follows them were read
-read-behind : (left n : ℕ) (s part tail : List ℕ) → left ≤ length s → n ≤ length part → take (left + n - 0) (take left s ++ (part ++ tail)) ≡ take left s ++ take n part
+read-behind : (left n : ℕ) (s part tail : List ℕ) → left ≤ length s → n ≤ length part
+    → take (left + n - 0) (take left s ++ (part ++ tail)) ≡ take left s ++ take n part
 read-behind left n s part tail h l =
     let z : left + n - 0 ≡ left + n = omega arith in
     ap (λ k. take k (take left s ++ (part ++ tail))) z
@@ -62,7 +63,8 @@ refilled p got n before front part tail l m e i = (
 -- ---- a turn
 
 -- bytes passed
-pub hand-passed : (bytes : List ℕ) (from to u : ℕ) → from + u ≤ to → to ≤ length bytes → take (to - (from + u)) (drop (from + u) bytes) ≡ drop u (take (to - from) (drop from bytes))
+pub hand-passed : (bytes : List ℕ) (from to u : ℕ) → from + u ≤ to → to ≤ length bytes
+    → take (to - (from + u)) (drop (from + u) bytes) ≡ drop u (take (to - from) (drop from bytes))
 hand-passed bytes from to u h l =
     let k = to - (from + u) in
     let e : to - from ≡ u + k = omega arith in

@@ -50,7 +50,8 @@ module _ (p : Progress) (before : List ℕ) where
   pub read-step : {x : Progress} {after : List ℕ} (m : Memory) → next (midway p before m) .short ≡ true → Refilled p before x after
       → Stepped (midway p before m) (midway x after m) (x .failed)
   read-step {x} {after} m s r =
-      subst (λ (y : Progress). hand y after ≡ hand p before ++ r .came → Stepped (midway p before m) (midway y after m) (y .failed)) (sym (r .is)) (go (not (ltZ (r .got) (pos 0)))) (r .behind)
+      subst (λ (y : Progress). hand y after ≡ hand p before ++ r .came → Stepped (midway p before m) (midway y after m) (y .failed)) (sym (r .is))
+      (go (not (ltZ (r .got) (pos 0)))) (r .behind)
     where
       y : Progress
       y = record { mark = p .mark; from = 0; to = p .to - p .from + length (r .came); ended = eqb (length (r .came)) 0; failed = Nothing }

@@ -1,2 +1,3 @@
 -- What a reader must believe of the log program's input and output.
 pub mod Buffer
+pub mod Telling

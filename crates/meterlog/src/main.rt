@@ -1,8 +1,11 @@
 // The log program: a campaign's log on standard input, its lines on standard output.
 mod running;
+mod telling;
 
 use logprogram::Bookmark;
 use running::run;
+use telling::tell;
+use telling::word_for;
 
 // What could not be done.
 pub enum Failed {
@@ -22,18 +25,35 @@ pub struct Progress {
     pub failed: Failed,
 }
 
-// Memory for the largest order and the most slots that the program takes, and for what is read and written.
+// What is said on standard error once the program has stopped.
+pub enum Word {
+    // The log ended where it may, what failed is told already, or the program took all of its turns.
+    Silence,
+    BadLog,
+    RefusedStart,
+}
+
+// The period of the largest order that the program takes, its working room and tags, and the store of the most slots.
+const PERIOD: usize = 511;
+
+const ROOM: usize = 512;
+
+const TAGS: usize = 1022;
+
+const STORE: usize = 4088;
+
+// All the memory there is: the campaign's, and for what is read and written.
 fn main() {
     let mut bytes = io::large_buffer();
     let mut out = io::large_buffer();
-    let mut store: [i32; 4088] = [0; 4088];
-    let mut sums: [i64; 511] = [0; 511];
-    let mut recording: [i32; 511] = [0; 511];
-    let mut r: [i64; 511] = [0; 511];
-    let mut mean: [i32; 511] = [0; 511];
-    let mut room: [i64; 512] = [0; 512];
-    let mut tags: [u16; 1022] = [0; 1022];
-    run(
+    let mut store: [i32; STORE] = [0; STORE];
+    let mut sums: [i64; PERIOD] = [0; PERIOD];
+    let mut recording: [i32; PERIOD] = [0; PERIOD];
+    let mut r: [i64; PERIOD] = [0; PERIOD];
+    let mut mean: [i32; PERIOD] = [0; PERIOD];
+    let mut room: [i64; ROOM] = [0; ROOM];
+    let mut tags: [u16; TAGS] = [0; TAGS];
+    let p = run(
         &mut bytes,
         &mut out,
         &mut store,
@@ -44,4 +64,5 @@ fn main() {
         &mut room,
         &mut tags,
     );
+    tell(word_for(p));
 }

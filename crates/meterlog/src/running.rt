@@ -195,6 +195,7 @@ pub fn run(
     ensures { λ x. ⌜ Ended
         (midway x (now (bytes .exit)) (memory (now (store .exit)) (now (sums .exit)) (now (recording .exit)) (now (r .exit)) (now (mean .exit)) (now (room .exit)) (now (tags .exit))))
         (x .failed) ⌝ }
+    ensures { λ x. ⌜ Inside x (now (bytes .exit)) ⌝ }
 {
     let mut p = Progress {
         mark: first_mark(),

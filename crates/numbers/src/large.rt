@@ -16,7 +16,7 @@ ghost use Prim.Native.Nat.{_≤_};
 ghost use lib.ListN.{length};
 
 fn predicted_line(order: u32, taps: u32, h: &[i32], y: &mut [i32]) {
-    let answer = response::predict(order, taps, h, y);
+    let answer = prediction::predict(order, taps, h, y);
     three(b"predict", order as u64, answer as u64, digest_samples(y));
 }
 

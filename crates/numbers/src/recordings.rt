@@ -68,6 +68,6 @@ pub fn refused_line() {
     let h = [8388607, 8388607, 0, 0, 0, 0, 0];
     let mut y = [0i32; 7];
     word(b"predict-refused");
-    number(response::predict(3, 3, &h, &mut y) as u64);
+    number(prediction::predict(3, 3, &h, &mut y) as u64);
     line_end();
 }

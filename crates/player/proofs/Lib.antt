@@ -2,3 +2,4 @@
 pub mod Playable
 pub mod Playing
 pub mod Blocks
+pub mod Held

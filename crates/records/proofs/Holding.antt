@@ -15,27 +15,29 @@ use Rattle.sums.proofs.Everywhere.{and-true, both-true, every-at, every-all, or
 use Rattle.register.specs.Register.{P, Accepted}
 use Rattle.register.specs.Calls.{tapsAnswer}
 use Rattle.register.proofs.Judged.{accepted-exactly}
-use Rattle.records.specs.Record.{standing, withdrawn, state, stands, slot, free, sample, usedTotal, inside, eqZ, tapsHold, slotsHold, statesHold, pastFree, roomHolds, slotsStand, oneSlot, usedInside, freeZero, sumsHold, together, apart}
+use Rattle.records.specs.Record.{standing, withdrawn, state, stands, slot, free, sample, usedTotal, tapsHold, slotsHold, statesHold, pastFree, roomHolds, slotsStand, oneSlot, usedInside, freeZero, sumsHold, together, apart}
+use Rattle.samples.specs.Samples.{inside}
+use Rattle.sums.specs.Equal.{eqZ}
 use Rattle.records.specs.declared.Campaign.{Campaign}
-use Rattle.records.proofs.Tests.{eqZ-same, eqZ-is}
+use Rattle.sums.proofs.Equal.{eqZ-same, eqZ-is}
 
 -- the record alone: its slots and its days
 pub record Filed (c : Campaign) : Type 0 where
   pub accepted : Accepted (c .order) (c .taps)
-  pub least : 1 ≤ c .slots
-  pub most : c .slots ≤ 64
+  pub least : 1 ≤ c .capacity
+  pub most : c .capacity ≤ 64
   pub states : (i : ℕ) → i < 366 → state c (i + 1) ≤ withdrawn
-  pub past : (s : ℕ) → s < 64 → c .slots ≤ s → slot c s ≡ 0
-  pub named : (s : ℕ) → s < c .slots → (slot c s ≡ 0 → ⊥) → (slot c s ≤ 366) × (state c (slot c s) ≡ standing)
-  pub one : (i : ℕ) → i < 366 → state c (i + 1) ≡ standing → many (c .slots) (λ s. eqb (slot c s) (i + 1)) ≡ 1
+  pub past : (s : ℕ) → s < 64 → c .capacity ≤ s → slot c s ≡ 0
+  pub named : (s : ℕ) → s < c .capacity → (slot c s ≡ 0 → ⊥) → (slot c s ≤ 366) × (state c (slot c s) ≡ standing)
+  pub one : (i : ℕ) → i < 366 → state c (i + 1) ≡ standing → many (c .capacity) (λ s. eqb (slot c s) (i + 1)) ≡ 1
 
 -- and with the lent memory
 pub record Together (c : Campaign) (store sums : List ℤ) : Type 0 where
   pub filed : Filed c
-  pub store-long : c .slots * P (c .order) ≤ length store
+  pub store-long : c .capacity * P (c .order) ≤ length store
   pub sums-long : P (c .order) ≤ length sums
-  pub used : (s : ℕ) → s < c .slots → (slot c s ≡ 0 → ⊥) → (j : ℕ) → j < P (c .order) → inside (sample c store s j) ≡ true
-  pub zeros : (s : ℕ) → s < c .slots → slot c s ≡ 0 → (j : ℕ) → j < P (c .order) → sample c store s j ≡ pos 0
+  pub used : (s : ℕ) → s < c .capacity → (slot c s ≡ 0 → ⊥) → (j : ℕ) → j < P (c .order) → inside (sample c store s j) ≡ true
+  pub zeros : (s : ℕ) → s < c .capacity → slot c s ≡ 0 → (j : ℕ) → j < P (c .order) → sample c store s j ≡ pos 0
   pub total : (j : ℕ) → j < P (c .order) → at sums j ≡ usedTotal c store j
 
 -- the tests of the slots and of the days' states
@@ -49,18 +51,18 @@ module _ (c : Campaign) where
       let k3 = and-true _ (slotsStand c) (k4 .0) in
       let k2 = and-true _ (pastFree c) (k3 .0) in
       let k1 = and-true (slotsHold c) (statesHold c) (k2 .0) in
-      let range = and-true (leb 1 (c .slots)) (leb (c .slots) 64) (k1 .0) in
+      let range = and-true (leb 1 (c .capacity)) (leb (c .capacity) 64) (k1 .0) in
       record {
         accepted = accepted-exactly (c .order) (c .taps) .0 (eqb-true (tapsAnswer (c .order) (c .taps)) 0 taps);
-        least = leb-true 1 (c .slots) (range .0);
-        most = leb-true (c .slots) 64 (range .1);
+        least = leb-true 1 (c .capacity) (range .0);
+        most = leb-true (c .capacity) 64 (range .1);
         states = λ i l. leb-true (state c (i + 1)) withdrawn (every-at 366 _ (k1 .1) i l);
-        past = λ s l p. eqb-true (slot c s) 0 (or-rest (ltb s (c .slots)) (free c s) (every-at 64 _ (k2 .1) s l) (le-ltb s (c .slots) p));
+        past = λ s l p. eqb-true (slot c s) 0 (or-rest (ltb s (c .capacity)) (free c s) (every-at 64 _ (k2 .1) s l) (le-ltb s (c .capacity) p));
         named = λ s l u.
-            let two = and-true (leb (slot c s) 366) (stands c (slot c s)) (or-rest (free c s) _ (every-at (c .slots) _ (k3 .1) s l) (ne-eqb (slot c s) 0 u)) in
+            let two = and-true (leb (slot c s) 366) (stands c (slot c s)) (or-rest (free c s) _ (every-at (c .capacity) _ (k3 .1) s l) (ne-eqb (slot c s) 0 u)) in
             (leb-true (slot c s) 366 (two .0), eqb-true (state c (slot c s)) standing (two .1));
         one = λ i l q.
-            eqb-true (many (c .slots) (λ s. eqb (slot c s) (i + 1))) 1
+            eqb-true (many (c .capacity) (λ s. eqb (slot c s) (i + 1))) 1
             (or-rest (not (stands c (i + 1))) _ (every-at 366 _ (k4 .1) i l) (ap not (eq-eqb (state c (i + 1)) standing q)));
       }
 
@@ -87,15 +89,15 @@ module _ (c : Campaign) (store sums : List ℤ) where
   to : together c store sums ≡ true → Together c store sums
   to h =
       let k = tests h in
-      let room = and-true (leb (c .slots * P (c .order)) (length store)) (leb (P (c .order)) (length sums)) (k .2) in
+      let room = and-true (leb (c .capacity * P (c .order)) (length store)) (leb (P (c .order)) (length sums)) (k .2) in
       record {
         filed = filed-by c (k .0) (k .1);
-        store-long = leb-true (c .slots * P (c .order)) (length store) (room .0);
+        store-long = leb-true (c .capacity * P (c .order)) (length store) (room .0);
         sums-long = leb-true (P (c .order)) (length sums) (room .1);
-        used = λ s l u j i. every-at (P (c .order)) _ (or-rest (free c s) _ (every-at (c .slots) _ (k .3) s l) (ne-eqb (slot c s) 0 u)) j i;
+        used = λ s l u j i. every-at (P (c .order)) _ (or-rest (free c s) _ (every-at (c .capacity) _ (k .3) s l) (ne-eqb (slot c s) 0 u)) j i;
         zeros = λ s l f j i.
             eqZ-is (sample c store s j) (pos 0)
-            (every-at (P (c .order)) _ (or-rest (not (free c s)) _ (every-at (c .slots) _ (k .4) s l) (ap not (eq-eqb (slot c s) 0 f))) j i);
+            (every-at (P (c .order)) _ (or-rest (not (free c s)) _ (every-at (c .capacity) _ (k .4) s l) (ap not (eq-eqb (slot c s) 0 f))) j i);
         total = λ j i. eqZ-is (at sums j) (usedTotal c store j) (every-at (P (c .order)) _ (k .5) j i);
       }
 
@@ -113,23 +115,23 @@ module _ (c : Campaign) (store sums : List ℤ) where
       (both-true
       (both-true
       (eq-eqb (tapsAnswer (c .order) (c .taps)) 0 (accepted-exactly (c .order) (c .taps) .1 (f .accepted)))
-      (both-true (le-leb 1 (c .slots) (f .least)) (le-leb (c .slots) 64 (f .most))))
+      (both-true (le-leb 1 (c .capacity) (f .least)) (le-leb (c .capacity) 64 (f .most))))
       (every-all 366 _ (λ i l. le-leb (state c (i + 1)) withdrawn (f .states i l))))
       (every-all 64 _ (λ s l. past s l)))
-      (both-true (le-leb (c .slots * P (c .order)) (length store) (t .store-long)) (le-leb (P (c .order)) (length sums) (t .sums-long))))
-      (every-all (c .slots) _ (λ s l. named s l)))
+      (both-true (le-leb (c .capacity * P (c .order)) (length store) (t .store-long)) (le-leb (P (c .order)) (length sums) (t .sums-long))))
+      (every-all (c .capacity) _ (λ s l. named s l)))
       (every-all 366 _ (λ i l. one i l)))
-      (every-all (c .slots) _ (λ s l. used s l)))
-      (every-all (c .slots) _ (λ s l. zeros s l)))
+      (every-all (c .capacity) _ (λ s l. used s l)))
+      (every-all (c .capacity) _ (λ s l. zeros s l)))
       (every-all (P (c .order)) _ (λ j l. eqZ-same (t .total j l)))
     where
-      past : (s : ℕ) → s < 64 → ltb s (c .slots) || free c s ≡ true
-      past s l = elim (decLt s (c .slots)) [
-        | yes h ↦ or-left (ltb s (c .slots)) (free c s) (lt-ltb s (c .slots) h)
-        | no h ↦ or-right (ltb s (c .slots)) (free c s) (eq-eqb (slot c s) 0 (t .filed .past s l (omega arith)))
+      past : (s : ℕ) → s < 64 → ltb s (c .capacity) || free c s ≡ true
+      past s l = elim (decLt s (c .capacity)) [
+        | yes h ↦ or-left (ltb s (c .capacity)) (free c s) (lt-ltb s (c .capacity) h)
+        | no h ↦ or-right (ltb s (c .capacity)) (free c s) (eq-eqb (slot c s) 0 (t .filed .past s l (omega arith)))
       ]
 
-      named : (s : ℕ) → s < c .slots → free c s || (leb (slot c s) 366 && stands c (slot c s)) ≡ true
+      named : (s : ℕ) → s < c .capacity → free c s || (leb (slot c s) 366 && stands c (slot c s)) ≡ true
       named s l = elim (ℕ-discrete (slot c s) 0) [
         | yes e ↦ or-left (free c s) (leb (slot c s) 366 && stands c (slot c s)) (eq-eqb (slot c s) 0 e)
         | no e ↦ let n = t .filed .named s l e in
@@ -137,19 +139,19 @@ module _ (c : Campaign) (store sums : List ℤ) where
             (both-true (le-leb (slot c s) 366 (n .0)) (eq-eqb (state c (slot c s)) standing (n .1)))
       ]
 
-      one : (i : ℕ) → i < 366 → not (stands c (i + 1)) || eqb (many (c .slots) (λ s. eqb (slot c s) (i + 1))) 1 ≡ true
+      one : (i : ℕ) → i < 366 → not (stands c (i + 1)) || eqb (many (c .capacity) (λ s. eqb (slot c s) (i + 1))) 1 ≡ true
       one i l = elim (ℕ-discrete (state c (i + 1)) standing) [
-        | yes e ↦ or-right (not (stands c (i + 1))) _ (eq-eqb (many (c .slots) (λ s. eqb (slot c s) (i + 1))) 1 (t .filed .one i l e))
+        | yes e ↦ or-right (not (stands c (i + 1))) _ (eq-eqb (many (c .capacity) (λ s. eqb (slot c s) (i + 1))) 1 (t .filed .one i l e))
         | no e ↦ or-left (not (stands c (i + 1))) _ (ap not (ne-eqb (state c (i + 1)) standing e))
       ]
 
-      used : (s : ℕ) → s < c .slots → free c s || every (P (c .order)) (λ j. inside (sample c store s j)) ≡ true
+      used : (s : ℕ) → s < c .capacity → free c s || every (P (c .order)) (λ j. inside (sample c store s j)) ≡ true
       used s l = elim (ℕ-discrete (slot c s) 0) [
         | yes e ↦ or-left (free c s) _ (eq-eqb (slot c s) 0 e)
         | no e ↦ or-right (free c s) _ (every-all (P (c .order)) _ (λ j k. t .used s l e j k))
       ]
 
-      zeros : (s : ℕ) → s < c .slots → not (free c s) || every (P (c .order)) (λ j. eqZ (sample c store s j) (pos 0)) ≡ true
+      zeros : (s : ℕ) → s < c .capacity → not (free c s) || every (P (c .order)) (λ j. eqZ (sample c store s j) (pos 0)) ≡ true
       zeros s l = elim (ℕ-discrete (slot c s) 0) [
         | yes e ↦ or-right (not (free c s)) _ (every-all (P (c .order)) _ (λ j k. eqZ-same (t .zeros s l e j k)))
         | no e ↦ or-left (not (free c s)) _ (ap not (ne-eqb (slot c s) 0 e))

@@ -20,7 +20,7 @@ use Rattle.records.proofs.Tallying.{no-slot}
 -- the tables are as long as the paper has them
 pub record Sized (c : Campaign) : Type 0 where
   pub days : length (c .days) ≡ 366
-  pub table : length (c .table) ≡ 64
+  pub slots : length (c .slots) ≡ 64
 
 -- a day of the year
 pub record Day (d : ℕ) : Type 0 where
@@ -35,7 +35,7 @@ day i l = record { first = omega arith; last = omega arith }
 module _ (c : Campaign) (z : Sized c) (d q : ℕ) (r : Day d) where
   module _ (s t : ℕ) where
     pub sized-filed : Sized (filed c d q s t)
-    sized-filed = record { days = length-set (c .days) (d - 1) q ∙ z .days; table = length-set (c .table) s t ∙ z .table }
+    sized-filed = record { days = length-set (c .days) (d - 1) q ∙ z .days; slots = length-set (c .slots) s t ∙ z .slots }
 
     pub state-same : state (filed c d q s t) d ≡ q
     state-same = getD-set-same (c .days) (d - 1) q 0 (omega (arith, z .days, r .first, r .last))
@@ -44,13 +44,13 @@ module _ (c : Campaign) (z : Sized c) (d q : ℕ) (r : Day d) where
     state-other e p n = getD-set-other (c .days) (d - 1) (e - 1) q 0 (λ h. n (omega (arith, p .first, r .first)))
 
     pub slot-same : s < 64 → slot (filed c d q s t) s ≡ t
-    slot-same h = getD-set-same (c .table) s t 0 (omega (arith, z .table))
+    slot-same h = getD-set-same (c .slots) s t 0 (omega (arith, z .slots))
 
     pub slot-other : (k : ℕ) → (k ≡ s → ⊥) → slot (filed c d q s t) k ≡ slot c k
-    slot-other k n = getD-set-other (c .table) s k t 0 n
+    slot-other k n = getD-set-other (c .slots) s k t 0 n
 
   pub sized-marked : Sized (marked c d q)
-  sized-marked = record { days = length-set (c .days) (d - 1) q ∙ z .days; table = z .table }
+  sized-marked = record { days = length-set (c .days) (d - 1) q ∙ z .days; slots = z .slots }
 
 -- ---- a day set aside, or withdrawn, that has no slot
 
@@ -93,18 +93,18 @@ marked-filed c z d q r f n a h =
 
 -- ---- a day that takes a free slot
 
-module _ (c : Campaign) (z : Sized c) (d q k t : ℕ) (r : Day d) (f : Filed c) (inside : k < c .slots) where
+module _ (c : Campaign) (z : Sized c) (d q k t : ℕ) (r : Day d) (f : Filed c) (inside : k < c .capacity) where
   k-small : k < 64
   k-small = omega (arith, f .most)
 
   -- the slots that name a day, after the change of slot k
-  recount : (e : ℕ) → many (c .slots) (λ s. eqb (slot (filed c d q k t) s) e) + cond (eqb (slot c k) e) 1 0
-      ≡ many (c .slots) (λ s. eqb (slot c s) e) + cond (eqb t e) 1 0
+  recount : (e : ℕ) → many (c .capacity) (λ s. eqb (slot (filed c d q k t) s) e) + cond (eqb (slot c k) e) 1 0
+      ≡ many (c .capacity) (λ s. eqb (slot c s) e) + cond (eqb t e) 1 0
   unfolding many
   recount e =
-      total-changed (c .slots) k (λ s. cond (eqb (slot c s) e) 1 0) (λ s. cond (eqb (slot (filed c d q k t) s) e) 1 0) inside
+      total-changed (c .capacity) k (λ s. cond (eqb (slot c s) e) 1 0) (λ s. cond (eqb (slot (filed c d q k t) s) e) 1 0) inside
       (λ s l n. ap (λ m. cond (eqb m e) 1 0) (slot-other c z d q r k t s n))
-      ∙ ap (λ m. many (c .slots) (λ s. eqb (slot c s) e) + cond (eqb m e) 1 0) (slot-same c z d q r k t k-small)
+      ∙ ap (λ m. many (c .capacity) (λ s. eqb (slot c s) e) + cond (eqb m e) 1 0) (slot-same c z d q r k t k-small)
 
   -- the state of every day, and every slot past C
   states : (q ≤ withdrawn) → (i : ℕ) → i < 366 → state (filed c d q k t) (i + 1) ≤ withdrawn
@@ -113,11 +113,11 @@ module _ (c : Campaign) (z : Sized c) (d q k t : ℕ) (r : Day d) (f : Filed c) 
     | no x ↦ subst (λ m. m ≤ withdrawn) (sym (state-other c z d q r k t (i + 1) (day i l) x)) (f .states i l)
   ]
 
-  past : (s : ℕ) → s < 64 → c .slots ≤ s → slot (filed c d q k t) s ≡ 0
+  past : (s : ℕ) → s < 64 → c .capacity ≤ s → slot (filed c d q k t) s ≡ 0
   past s l h = slot-other c z d q r k t s (λ e. omega arith) ∙ f .past s l h
 
   -- another slot that is in use
-  elsewhere : (s : ℕ) → s < c .slots → (s ≡ k → ⊥) → (slot (filed c d q k t) s ≡ 0 → ⊥) → (slot c s ≡ d → ⊥)
+  elsewhere : (s : ℕ) → s < c .capacity → (s ≡ k → ⊥) → (slot (filed c d q k t) s ≡ 0 → ⊥) → (slot c s ≡ d → ⊥)
       → (slot (filed c d q k t) s ≤ 366) × (state (filed c d q k t) (slot (filed c d q k t) s) ≡ standing)
   elsewhere s l n u m =
       let e = slot-other c z d q r k t s n in
@@ -130,13 +130,13 @@ module _ (c : Campaign) (z : Sized c) (d q k t : ℕ) (r : Day d) (f : Filed c) 
       some n h = omega arith
 
   other-count : (e : ℕ) → (slot c k ≡ e → ⊥) → (t ≡ e → ⊥)
-      → many (c .slots) (λ s. eqb (slot (filed c d q k t) s) e) ≡ many (c .slots) (λ s. eqb (slot c s) e)
+      → many (c .capacity) (λ s. eqb (slot (filed c d q k t) s) e) ≡ many (c .capacity) (λ s. eqb (slot c s) e)
   other-count e a b =
       let m = rw (ne-eqb (slot c k) e a, ne-eqb t e b) at (recount e) in omega arith
 
 -- ---- a day that takes a free slot
 
-pub taken-filed : (c : Campaign) → Sized c → (d k : ℕ) → Day d → Filed c → k < c .slots → slot c k ≡ 0 → (state c d ≡ standing → ⊥)
+pub taken-filed : (c : Campaign) → Sized c → (d k : ℕ) → Day d → Filed c → k < c .capacity → slot c k ≡ 0 → (state c d ≡ standing → ⊥)
     → Filed (filed c d standing k d)
 taken-filed c z d k r f inside e n =
     record {
@@ -160,30 +160,30 @@ taken-filed c z d k r f inside e n =
         let g = ap (slot (filed c d standing k d)) x ∙ slot-same c z d standing r k d small in
         (subst (λ m. m ≤ 366) (sym g) (r .last), ap (state (filed c d standing k d)) g ∙ state-same c z d standing r k d)
 
-    mine : (i : ℕ) → i + 1 ≡ d → many (c .slots) (λ s. eqb (slot (filed c d standing k d) s) (i + 1)) ≡ 1
+    mine : (i : ℕ) → i + 1 ≡ d → many (c .capacity) (λ s. eqb (slot (filed c d standing k d) s) (i + 1)) ≡ 1
     mine i x =
         let m = rw (ap (λ w. eqb w d) e, ne-eqb 0 d (λ g. omega (arith, r .first)), eq-eqb d d refl) at (recount c z d standing k d r f inside d) in
-        let none = many-none (c .slots) (λ s. eqb (slot c s) d) (λ s l. ne-eqb (slot c s) d (no-slot c f d s (r .first) n l)) in
-        ap (λ w. many (c .slots) (λ s. eqb (slot (filed c d standing k d) s) w)) x ∙ omega arith
+        let none = many-none (c .capacity) (λ s. eqb (slot c s) d) (λ s l. ne-eqb (slot c s) d (no-slot c f d s (r .first) n l)) in
+        ap (λ w. many (c .capacity) (λ s. eqb (slot (filed c d standing k d) s) w)) x ∙ omega arith
 
     others : (i : ℕ) → i < 366 → (i + 1 ≡ d → ⊥) → state (filed c d standing k d) (i + 1) ≡ standing
-        → many (c .slots) (λ s. eqb (slot (filed c d standing k d) s) (i + 1)) ≡ 1
+        → many (c .capacity) (λ s. eqb (slot (filed c d standing k d) s) (i + 1)) ≡ 1
     others i l x w =
         other-count c z d standing k d r f inside (i + 1) (λ g. omega arith) (λ g. x (sym g))
         ∙ f .one i l (sym (state-other c z d standing r k d (i + 1) (day i l) x) ∙ w)
 
 -- ---- a standing day that gives its slot back
 
-pub slot-unique : (c : Campaign) → Filed c → (d s k : ℕ) → Day d → state c d ≡ standing → s < c .slots → k < c .slots → slot c s ≡ d → slot c k ≡ d → s ≡ k
+pub slot-unique : (c : Campaign) → Filed c → (d s k : ℕ) → Day d → state c d ≡ standing → s < c .capacity → k < c .capacity → slot c s ≡ d → slot c k ≡ d → s ≡ k
 slot-unique c f d s k r w a b e g =
-    many-one (c .slots) (λ s. eqb (slot c s) d) once s k a b (eq-eqb (slot c s) d e) (eq-eqb (slot c k) d g)
+    many-one (c .capacity) (λ s. eqb (slot c s) d) once s k a b (eq-eqb (slot c s) d e) (eq-eqb (slot c k) d g)
   where
-    once : many (c .slots) (λ s. eqb (slot c s) d) ≡ 1
+    once : many (c .capacity) (λ s. eqb (slot c s) d) ≡ 1
     once =
         let x : d - 1 + 1 ≡ d = omega (arith, r .first) in
-        ap (λ n. many (c .slots) (λ s. eqb (slot c s) n)) (sym x) ∙ f .one (d - 1) (omega (arith, r .first, r .last)) (ap (state c) x ∙ w)
+        ap (λ n. many (c .capacity) (λ s. eqb (slot c s) n)) (sym x) ∙ f .one (d - 1) (omega (arith, r .first, r .last)) (ap (state c) x ∙ w)
 
-pub freed-filed : (c : Campaign) → Sized c → (d k : ℕ) → Day d → Filed c → k < c .slots → slot c k ≡ d → state c d ≡ standing
+pub freed-filed : (c : Campaign) → Sized c → (d k : ℕ) → Day d → Filed c → k < c .capacity → slot c k ≡ d → state c d ≡ standing
     → Filed (filed c d withdrawn k 0)
 freed-filed c z d k r f inside e w =
     record {
@@ -204,7 +204,7 @@ freed-filed c z d k r f inside e w =
         let g : _≡_ {A = ℕ} withdrawn standing = sym (state-same c z d withdrawn r k 0) ∙ ap (state (filed c d withdrawn k 0)) (sym x) ∙ v in omega arith
 
     others : (i : ℕ) → i < 366 → (i + 1 ≡ d → ⊥) → state (filed c d withdrawn k 0) (i + 1) ≡ standing
-        → many (c .slots) (λ s. eqb (slot (filed c d withdrawn k 0) s) (i + 1)) ≡ 1
+        → many (c .capacity) (λ s. eqb (slot (filed c d withdrawn k 0) s) (i + 1)) ≡ 1
     others i l x v =
         other-count c z d withdrawn k 0 r f inside (i + 1) (λ g. x (sym g ∙ e)) (λ g. omega arith)
         ∙ f .one i l (sym (state-other c z d withdrawn r k 0 (i + 1) (day i l) x) ∙ v)

@@ -31,31 +31,31 @@ module _ (c : Campaign) (f : Filed c) where
   hit : ℕ → ℕ → ℤ
   hit d s = delta d (slot c s)
 
-  hits-one : (i : ℕ) → i < 366 → state c (i + 1) ≡ standing → sum (c .slots) (hit (i + 1)) ≡ pos 1
+  hits-one : (i : ℕ) → i < 366 → state c (i + 1) ≡ standing → sum (c .capacity) (hit (i + 1)) ≡ pos 1
   unfolding hit delta
-  hits-one i l e = sym (pos-many (c .slots) (λ s. eqb (slot c s) (i + 1))) ∙ ap pos (f .one i l e)
+  hits-one i l e = sym (pos-many (c .capacity) (λ s. eqb (slot c s) (i + 1))) ∙ ap pos (f .one i l e)
 
   -- a day that does not stand has no slot
-  pub no-slot : (d s : ℕ) → 1 ≤ d → (state c d ≡ standing → ⊥) → s < c .slots → slot c s ≡ d → ⊥
+  pub no-slot : (d s : ℕ) → 1 ≤ d → (state c d ≡ standing → ⊥) → s < c .capacity → slot c s ≡ d → ⊥
   no-slot d s p n l e = n (ap (state c) (sym e) ∙ f .named s l (λ z. omega arith) .1)
 
   -- each day's part, by its slots
-  by-slots : (v : ℕ → ℤ) (i : ℕ) → i < 366 → cond (stands c (i + 1)) (v (i + 1)) (pos 0) ≡ sum (c .slots) (λ s. hit (i + 1) s *ℤ v (i + 1))
+  by-slots : (v : ℕ → ℤ) (i : ℕ) → i < 366 → cond (stands c (i + 1)) (v (i + 1)) (pos 0) ≡ sum (c .capacity) (λ s. hit (i + 1) s *ℤ v (i + 1))
   unfolding hit
   by-slots v i l = elim (ℕ-discrete (state c (i + 1)) standing) [
     | yes e ↦ rw (eq-eqb (state c (i + 1)) standing e)
-        (sym (sum-scale-r (c .slots) (v (i + 1)) (hit (i + 1)) ∙ ap (λ z. z *ℤ v (i + 1)) (hits-one i l e) ∙ one-*ℤ (v (i + 1))))
+        (sym (sum-scale-r (c .capacity) (v (i + 1)) (hit (i + 1)) ∙ ap (λ z. z *ℤ v (i + 1)) (hits-one i l e) ∙ one-*ℤ (v (i + 1))))
     | no n ↦ rw (ne-eqb (state c (i + 1)) standing n) (sym (none n))
   ]
     where
-      none : (state c (i + 1) ≡ standing → ⊥) → sum (c .slots) (λ s. hit (i + 1) s *ℤ v (i + 1)) ≡ pos 0
+      none : (state c (i + 1) ≡ standing → ⊥) → sum (c .capacity) (λ s. hit (i + 1) s *ℤ v (i + 1)) ≡ pos 0
       none n =
-          sum-ext (c .slots)
+          sum-ext (c .capacity)
           (λ s k. ap (λ z. z *ℤ v (i + 1)) (delta-other (i + 1) (slot c s) (λ e. no-slot (i + 1) s (omega arith) n k e)) ∙ zero-*ℤ (v (i + 1)))
-          ∙ sum-zero (c .slots)
+          ∙ sum-zero (c .capacity)
 
   -- each slot's part, by its day
-  by-day : (v : ℕ → ℤ) (s : ℕ) → s < c .slots → sum 366 (λ i. hit (i + 1) s *ℤ v (i + 1)) ≡ cond (free c s) (pos 0) (v (slot c s))
+  by-day : (v : ℕ → ℤ) (s : ℕ) → s < c .capacity → sum 366 (λ i. hit (i + 1) s *ℤ v (i + 1)) ≡ cond (free c s) (pos 0) (v (slot c s))
   unfolding hit
   by-day v s l = go (slot c s) refl
     where
@@ -79,21 +79,21 @@ module _ (c : Campaign) (f : Filed c) where
       go zero e = rw (eq-eqb (slot c s) 0 e) (empty e)
       go (suc m) e = rw (ne-eqb (slot c s) 0 (λ z. omega arith)) (used m e)
 
-  pub slots-as-days : (v : ℕ → ℤ) → sum (c .slots) (λ s. cond (free c s) (pos 0) (v (slot c s))) ≡ sum 366 (λ i. cond (stands c (i + 1)) (v (i + 1)) (pos 0))
+  pub slots-as-days : (v : ℕ → ℤ) → sum (c .capacity) (λ s. cond (free c s) (pos 0) (v (slot c s))) ≡ sum 366 (λ i. cond (stands c (i + 1)) (v (i + 1)) (pos 0))
   slots-as-days v =
       sym (sum-ext 366 (λ i l. by-slots v i l)
-      ∙ sum-swap 366 (c .slots) (λ i s. hit (i + 1) s *ℤ v (i + 1))
-      ∙ sum-ext (c .slots) (λ s l. by-day v s l))
+      ∙ sum-swap 366 (c .capacity) (λ i s. hit (i + 1) s *ℤ v (i + 1))
+      ∙ sum-ext (c .capacity) (λ s l. by-day v s l))
 
   -- as many slots in use as days standing
-  pub used-standing : sum (c .slots) (λ s. cond (free c s) (pos 0) (pos 1)) ≡ pos (daysIn c standing)
+  pub used-standing : sum (c .capacity) (λ s. cond (free c s) (pos 0) (pos 1)) ≡ pos (daysIn c standing)
   used-standing = slots-as-days (λ d. pos 1) ∙ sym (pos-many 366 (λ i. stands c (i + 1)))
 
   -- and so at most C
-  pub standing-most : daysIn c standing ≤ c .slots
+  pub standing-most : daysIn c standing ≤ c .capacity
   standing-most =
       rw (ap natAbs (sym used-standing))
-      (omega (arith, natAbs-sum (c .slots) 1 (λ s. cond (free c s) (pos 0) (pos 1)) (λ s _. at-most-one (free c s))))
+      (omega (arith, natAbs-sum (c .capacity) 1 (λ s. cond (free c s) (pos 0) (pos 1)) (λ s _. at-most-one (free c s))))
     where
       at-most-one : (b : Bool) → natAbs (cond b (pos 0) (pos 1)) ≤ 1
       at-most-one true = omega arith

@@ -11,18 +11,18 @@ use Rattle.records.specs.Record.{together}
 use Rattle.records.specs.Blocks.{Block}
 use Rattle.records.specs.declared.Campaign.{Campaign}
 use Rattle.records.proofs.Holding.{Filed, Together, holds-together}
-use Rattle.records.proofs.Rows.{not-true}
+use Rattle.sums.proofs.Everywhere.{never-true}
 
 -- two truth values, each true where the other is
 pub both-ways : (a b : Bool) → (a ≡ true → b ≡ true) → (b ≡ true → a ≡ true) → a ≡ b
 both-ways true b h g = sym (h refl)
-both-ways false b h g = sym (not-true b (λ e. true≢false (sym (g e))))
+both-ways false b h g = sym (never-true b (λ e. true≢false (sym (g e))))
 
 module _ (c : Campaign) (store sums : List ℤ) where
   abbrev pub AllPlaces : Type 0
-  AllPlaces = Block (c .table) (c .slots) (P (c .order)) store sums 0 (P (c .order))
+  AllPlaces = Block (c .slots) (c .capacity) (P (c .order)) store sums 0 (P (c .order))
 
-  pub whole : Filed c → c .slots * P (c .order) ≤ length store → P (c .order) ≤ length sums → AllPlaces → Together c store sums
+  pub whole : Filed c → c .capacity * P (c .order) ≤ length store → P (c .order) ≤ length sums → AllPlaces → Together c store sums
   whole f a b k =
       record {
         filed = f;
@@ -42,4 +42,4 @@ module _ (c : Campaign) (store sums : List ℤ) where
 
   -- what cannot hold together does not
   pub does-not : (Together c store sums → ⊥) → false ≡ together c store sums
-  does-not h = sym (not-true (together c store sums) (λ e. h (holds-together c store sums .0 e)))
+  does-not h = sym (never-true (together c store sums) (λ e. h (holds-together c store sums .0 e)))

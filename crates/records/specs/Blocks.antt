@@ -8,14 +8,14 @@ use lib.IntN.{ℤ, pos}
 use lib.ListN.{getD}
 use Rattle.sums.specs.Sum.{sum}
 use Rattle.sums.specs.Lists.{at}
-use Rattle.records.specs.Record.{inside}
+use Rattle.samples.specs.Samples.{inside}
 
 -- slot s of a store of periods P, at those places: between the rails where it is used, and zeros where it is free
-pub record Row (table : List ℕ) (P : ℕ) (store : List ℤ) (a n s : ℕ) : Type 0 where
-  pub used : (getD table s 0 ≡ 0 → ⊥) → (j : ℕ) → a ≤ j → j < a + n → inside (at store (s * P + j)) ≡ true
-  pub zeros : getD table s 0 ≡ 0 → (j : ℕ) → a ≤ j → j < a + n → at store (s * P + j) ≡ pos 0
+pub record Row (slots : List ℕ) (P : ℕ) (store : List ℤ) (a n s : ℕ) : Type 0 where
+  pub used : (getD slots s 0 ≡ 0 → ⊥) → (j : ℕ) → a ≤ j → j < a + n → inside (at store (s * P + j)) ≡ true
+  pub zeros : getD slots s 0 ≡ 0 → (j : ℕ) → a ≤ j → j < a + n → at store (s * P + j) ≡ pos 0
 
 -- every slot, and the sums their total
-pub record Block (table : List ℕ) (C P : ℕ) (store sums : List ℤ) (a n : ℕ) : Type 0 where
-  pub rows : (s : ℕ) → s < C → Row table P store a n s
-  pub total : (j : ℕ) → a ≤ j → j < a + n → at sums j ≡ sum C (λ s. cond (eqb (getD table s 0) 0) (pos 0) (at store (s * P + j)))
+pub record Block (slots : List ℕ) (C P : ℕ) (store sums : List ℤ) (a n : ℕ) : Type 0 where
+  pub rows : (s : ℕ) → s < C → Row slots P store a n s
+  pub total : (j : ℕ) → a ≤ j → j < a + n → at sums j ≡ sum C (λ s. cond (eqb (getD slots s 0) 0) (pos 0) (at store (s * P + j)))

@@ -4,11 +4,12 @@ use mathlib.Core.List.{List}
 use mathlib.Core.Bool.{Bool, cond, not, _&&_, _||_}
 use Prim.Native.Nat.{ℕ, _+_, _-_, _*_}
 use lib.Dec.{eqb, ltb, leb}
-use lib.IntN.{ℤ, pos, negsuc}
+use lib.IntN.{ℤ, pos}
 use lib.ListN.{length, getD, set, replicate}
-use lib.Signed.{leZ, ltZ}
 use Rattle.sums.specs.Sum.{sum}
 use Rattle.sums.specs.Lists.{at, every, many}
+use Rattle.sums.specs.Equal.{eqZ}
+use Rattle.samples.specs.Samples.{inside}
 use Rattle.register.specs.Register.{P}
 use Rattle.register.specs.Calls.{tapsAnswer}
 use Rattle.records.specs.declared.Campaign.{Campaign}
@@ -45,7 +46,7 @@ daysIn c q = many 366 (λ i. eqb (state c (i + 1)) q)
 
 -- the day in slot s, 0 where it is free
 abbrev pub slot : Campaign → ℕ → ℕ
-slot c s = getD (c .table) s 0
+slot c s = getD (c .slots) s 0
 
 abbrev pub free : Campaign → ℕ → Bool
 free c s = eqb (slot c s) 0
@@ -59,30 +60,21 @@ sample c store s j = at store (base c s + j)
 
 -- the total of the used slots at place j
 abbrev pub usedTotal : Campaign → List ℤ → ℕ → ℤ
-usedTotal c store j = sum (c .slots) (λ s. cond (free c s) (pos 0) (sample c store s j))
+usedTotal c store j = sum (c .capacity) (λ s. cond (free c s) (pos 0) (sample c store s j))
 
 -- ---- the record anew, and refiled
 
 -- every day unseen, every slot free
 abbrev pub fresh : ℕ → ℕ → ℕ → Campaign
-fresh N taps C = record { order = N; taps = taps; slots = C; days = replicate 366 unseen; table = replicate 64 0 }
+fresh N taps C = record { order = N; taps = taps; capacity = C; days = replicate 366 unseen; slots = replicate 64 0 }
 
 -- day d in the state q
 abbrev pub marked : Campaign → ℕ → ℕ → Campaign
-marked c d q = record { order = c .order; taps = c .taps; slots = c .slots; days = set (c .days) (d - 1) q; table = c .table }
+marked c d q = record { order = c .order; taps = c .taps; capacity = c .capacity; days = set (c .days) (d - 1) q; slots = c .slots }
 
 -- and slot s with the day t
 abbrev pub filed : Campaign → ℕ → ℕ → ℕ → ℕ → Campaign
-filed c d q s t = record { order = c .order; taps = c .taps; slots = c .slots; days = set (c .days) (d - 1) q; table = set (c .table) s t }
-
--- ---- tests of numbers
-
-abbrev pub eqZ : ℤ → ℤ → Bool
-eqZ a b = leZ a b && leZ b a
-
--- strictly between the rails
-abbrev pub inside : ℤ → Bool
-inside z = ltZ (negsuc 8388607) z && ltZ z (pos 8388607)
+filed c d q s t = record { order = c .order; taps = c .taps; capacity = c .capacity; days = set (c .days) (d - 1) q; slots = set (c .slots) s t }
 
 -- ---- a record holds together when
 
@@ -92,7 +84,7 @@ tapsHold c = eqb (tapsAnswer (c .order) (c .taps)) 0
 
 -- C is in range
 abbrev pub slotsHold : Campaign → Bool
-slotsHold c = leb 1 (c .slots) && leb (c .slots) 64
+slotsHold c = leb 1 (c .capacity) && leb (c .capacity) 64
 
 -- every day state is one of the five
 abbrev pub statesHold : Campaign → Bool
@@ -100,27 +92,27 @@ statesHold c = every 366 (λ i. leb (state c (i + 1)) withdrawn)
 
 -- slots past C are free
 abbrev pub pastFree : Campaign → Bool
-pastFree c = every 64 (λ s. ltb s (c .slots) || free c s)
+pastFree c = every 64 (λ s. ltb s (c .capacity) || free c s)
 
 -- the lent store and sums are long enough
 abbrev pub roomHolds : Campaign → List ℤ → List ℤ → Bool
-roomHolds c store sums = leb (c .slots * P (c .order)) (length store) && leb (P (c .order)) (length sums)
+roomHolds c store sums = leb (c .capacity * P (c .order)) (length store) && leb (P (c .order)) (length sums)
 
 -- each used slot names a standing day
 abbrev pub slotsStand : Campaign → Bool
-slotsStand c = every (c .slots) (λ s. free c s || (leb (slot c s) 366 && stands c (slot c s)))
+slotsStand c = every (c .capacity) (λ s. free c s || (leb (slot c s) 366 && stands c (slot c s)))
 
 -- each standing day has exactly one slot
 abbrev pub oneSlot : Campaign → Bool
-oneSlot c = every 366 (λ i. not (stands c (i + 1)) || eqb (many (c .slots) (λ s. eqb (slot c s) (i + 1))) 1)
+oneSlot c = every 366 (λ i. not (stands c (i + 1)) || eqb (many (c .capacity) (λ s. eqb (slot c s) (i + 1))) 1)
 
 -- used slots hold samples strictly between the rails
 abbrev pub usedInside : Campaign → List ℤ → Bool
-usedInside c store = every (c .slots) (λ s. free c s || every (P (c .order)) (λ j. inside (sample c store s j)))
+usedInside c store = every (c .capacity) (λ s. free c s || every (P (c .order)) (λ j. inside (sample c store s j)))
 
 -- free slots hold zeros
 abbrev pub freeZero : Campaign → List ℤ → Bool
-freeZero c store = every (c .slots) (λ s. not (free c s) || every (P (c .order)) (λ j. eqZ (sample c store s j) (pos 0)))
+freeZero c store = every (c .capacity) (λ s. not (free c s) || every (P (c .order)) (λ j. eqZ (sample c store s j) (pos 0)))
 
 -- each sum is the total of the used slots at its place
 abbrev pub sumsHold : Campaign → List ℤ → List ℤ → Bool

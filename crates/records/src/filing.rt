@@ -9,17 +9,17 @@ ghost use Prim.Native.Nat.{_≤_, _<_};
 ghost use Rattle.records.specs.Record.{fresh, marked, filed};
 
 // Every day unseen, every slot free.
-pub fn blank(order: u32, taps: u32, slots: u32) -> Campaign
-    ensures { λ r. ⌜ r ≡ fresh order taps slots ⌝ }
+pub fn blank(order: u32, taps: u32, capacity: u32) -> Campaign
+    ensures { λ r. ⌜ r ≡ fresh order taps capacity ⌝ }
 {
     let days = [UNSEEN; DAYS];
-    let table = [FREE; SLOTS];
+    let slots = [FREE; SLOTS];
     Campaign {
         order,
         taps,
-        slots,
+        capacity,
         days,
-        table,
+        slots,
     }
 }
 
@@ -42,6 +42,6 @@ pub fn file(c: Campaign, d: u32, q: u8, s: usize, t: u16) -> Campaign
     let mut r = c;
     let at = d as usize - 1;
     r.days[at] = q;
-    r.table[s] = t;
+    r.slots[s] = t;
     r
 }

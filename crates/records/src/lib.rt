@@ -1,9 +1,9 @@
 // A campaign's record, and whether it holds together with the store and the sums that are lent.
 pub mod filing;
-pub mod reread;
 pub mod slots;
 mod stored;
 pub mod tables;
+pub mod together;
 
 // A year's days, and the most slots that a campaign has.
 pub const DAYS: usize = 366;
@@ -29,11 +29,11 @@ pub const WITHDRAWN: u8 = 4;
 // What a slot holds in a day's place where it is free.
 pub const FREE: u16 = 0;
 
-// `slots` is how many slots it has; `days` holds each day's state, and `table` each slot's day.
+// `capacity` is how many slots it has; `days` holds each day's state, and `slots` each slot's day.
 pub struct Campaign {
     pub order: u32,
     pub taps: u32,
-    pub slots: u32,
+    pub capacity: u32,
     pub days: [u8; DAYS],
-    pub table: [u16; SLOTS],
+    pub slots: [u16; SLOTS],
 }

@@ -1,23 +1,11 @@
 // One slot of the store filled or emptied, and the sums with it.
 use crate::stored::add_row;
+use samples::clearing::clear_samples;
 ghost use mathlib.Core.Path.{_≡_};
 ghost use Prim.Native.Nat.{ℕ, _+_, _*_, _^_, _≤_, _<_};
 ghost use lib.IntN.{pos, natAbs, _+ℤ_, _-ℤ_};
 ghost use lib.ListN.{length};
 ghost use Rattle.sums.specs.Lists.{at, table, put, putAt};
-ghost use Rattle.response.specs.Calls.{clearedWide};
-
-// Zeros in the place of the first samples.
-pub fn clear_samples(row: &mut [i32], count: usize)
-    requires { ⌜ count ≤ length (now row) ⌝ }
-    ensures { λ _. ⌜ now (row .exit) ≡ clearedWide count (now (row .entry)) ⌝ }
-{
-    let mut j = 0;
-    while j < count {
-        row[j] = 0;
-        j += 1;
-    }
-}
 
 // A recording in the place of the first samples.
 fn copy_in(y: &[i32], row: &mut [i32])

@@ -1,5 +1,6 @@
 // The store and the sums against the slots: read once, in blocks of places, slot by slot.
-use response::clear::clear_wide;
+use samples::clearing::clear_wide;
+use samples::range::between_rails;
 ghost use mathlib.Core.Path.{_≡_};
 ghost use Prim.Native.Nat.{ℕ, _+_, _*_, _^_, _≤_, _<_, min};
 ghost use mathlib.Core.Bool.{Bool, true, cond};
@@ -7,15 +8,12 @@ ghost use lib.Dec.{eqb};
 ghost use lib.IntN.{ℤ, pos, natAbs, _+ℤ_};
 ghost use lib.ListN.{length};
 ghost use Rattle.sums.specs.Lists.{at, every};
-ghost use Rattle.records.specs.Record.{inside, eqZ};
+ghost use Rattle.samples.specs.Samples.{inside};
+ghost use Rattle.sums.specs.Equal.{eqZ};
 ghost use Rattle.records.specs.Blocks.{Block};
 
-// Whether a sample lies strictly between the rails.
-fn between_rails(x: i32) -> bool
-    ensures { λ r. ⌜ r ≡ inside x ⌝ }
-{
-    -8388608 < x && x < 8388607
-}
+// How many places a block has: its sums stay in the processor's nearest memory.
+const BLOCK: usize = 1024;
 
 // A used slot's samples at some places, added to their sums: whether all lie strictly between the rails.
 pub fn add_row(row: &[i32], sums: &mut [i64]) -> bool
@@ -78,8 +76,8 @@ fn take_row(day: u16, row: &[i32], sums: &mut [i64]) -> bool
 
 // Whether the places from `from` on hold together, their sums worked out in the room lent.
 fn block_holds(
-    table: &[u16],
-    slots: usize,
+    slots: &[u16],
+    capacity: usize,
     period: usize,
     store: &[i32],
     sums: &[i64],
@@ -87,17 +85,17 @@ fn block_holds(
     count: usize,
     found: &mut [i64],
 ) -> bool
-    requires { ⌜ (slots ≤ 64) × (length (now table) ≡ 64) × (slots * period ≤ length (now store)) × (period ≤ length (now sums)) ⌝ }
+    requires { ⌜ (capacity ≤ 64) × (length (now slots) ≡ 64) × (capacity * period ≤ length (now store)) × (period ≤ length (now sums)) ⌝ }
     requires { ⌜ (from + count ≤ period) × (count ≤ length (now found)) ⌝ }
-    ensures { λ r. ⌜ (r ≡ true → Block (now (table .entry)) slots period (now (store .entry)) (now (sums .entry)) from count)
-        × (Block (now (table .entry)) slots period (now (store .entry)) (now (sums .entry)) from count → r ≡ true) ⌝ }
+    ensures { λ r. ⌜ (r ≡ true → Block (now (slots .entry)) capacity period (now (store .entry)) (now (sums .entry)) from count)
+        × (Block (now (slots .entry)) capacity period (now (store .entry)) (now (sums .entry)) from count → r ≡ true) ⌝ }
 {
     clear_wide(found, count);
     let mut s = 0;
-    while s < slots {
+    while s < capacity {
         let at = s * period + from;
         let end = at + count;
-        if !take_row(table[s], &store[at..end], found) {
+        if !take_row(slots[s], &store[at..end], found) {
             return false;
         }
         s += 1;
@@ -114,23 +112,23 @@ fn smaller(a: usize, b: usize) -> usize
 
 // Whether all places hold together, block after block.
 fn blocks_hold(
-    table: &[u16],
-    slots: usize,
+    slots: &[u16],
+    capacity: usize,
     period: usize,
     store: &[i32],
     sums: &[i64],
     found: &mut [i64],
 ) -> bool
-    requires { ⌜ (slots ≤ 64) × (length (now table) ≡ 64) × (slots * period ≤ length (now store)) × (period ≤ length (now sums)) ⌝ }
+    requires { ⌜ (capacity ≤ 64) × (length (now slots) ≡ 64) × (capacity * period ≤ length (now store)) × (period ≤ length (now sums)) ⌝ }
     requires { ⌜ 0 < length (now found) ⌝ }
-    ensures { λ r. ⌜ (r ≡ true → Block (now (table .entry)) slots period (now (store .entry)) (now (sums .entry)) 0 period)
-        × (Block (now (table .entry)) slots period (now (store .entry)) (now (sums .entry)) 0 period → r ≡ true) ⌝ }
+    ensures { λ r. ⌜ (r ≡ true → Block (now (slots .entry)) capacity period (now (store .entry)) (now (sums .entry)) 0 period)
+        × (Block (now (slots .entry)) capacity period (now (store .entry)) (now (sums .entry)) 0 period → r ≡ true) ⌝ }
 {
     let size = found.len();
     let mut from = 0;
     while from < period {
         let count = smaller(period - from, size);
-        if !block_holds(table, slots, period, store, sums, from, count, found) {
+        if !block_holds(slots, capacity, period, store, sums, from, count, found) {
             return false;
         }
         from += count;
@@ -139,11 +137,17 @@ fn blocks_hold(
 }
 
 // The same, with the sums of a block in a room of its own.
-pub fn store_holds(table: &[u16], slots: usize, period: usize, store: &[i32], sums: &[i64]) -> bool
-    requires { ⌜ (slots ≤ 64) × (length (now table) ≡ 64) × (slots * period ≤ length (now store)) × (period ≤ length (now sums)) ⌝ }
-    ensures { λ r. ⌜ (r ≡ true → Block (now (table .entry)) slots period (now (store .entry)) (now (sums .entry)) 0 period)
-        × (Block (now (table .entry)) slots period (now (store .entry)) (now (sums .entry)) 0 period → r ≡ true) ⌝ }
+pub fn store_holds(
+    slots: &[u16],
+    capacity: usize,
+    period: usize,
+    store: &[i32],
+    sums: &[i64],
+) -> bool
+    requires { ⌜ (capacity ≤ 64) × (length (now slots) ≡ 64) × (capacity * period ≤ length (now store)) × (period ≤ length (now sums)) ⌝ }
+    ensures { λ r. ⌜ (r ≡ true → Block (now (slots .entry)) capacity period (now (store .entry)) (now (sums .entry)) 0 period)
+        × (Block (now (slots .entry)) capacity period (now (store .entry)) (now (sums .entry)) 0 period → r ≡ true) ⌝ }
 {
-    let mut found: [i64; 1024] = [0; 1024];
-    blocks_hold(table, slots, period, store, sums, &mut found)
+    let mut found: [i64; BLOCK] = [0; BLOCK];
+    blocks_hold(slots, capacity, period, store, sums, &mut found)
 }

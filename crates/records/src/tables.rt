@@ -44,20 +44,20 @@ pub fn states_hold(days: &[u8]) -> bool
 }
 
 // Whether a slot is one that was given out, or free.
-fn given_or_free(s: usize, slots: usize, day: u16) -> bool
-    ensures { λ r. ⌜ r ≡ ltb s slots || eqb day 0 ⌝ }
+fn given_or_free(s: usize, capacity: usize, day: u16) -> bool
+    ensures { λ r. ⌜ r ≡ ltb s capacity || eqb day 0 ⌝ }
 {
-    s < slots || day == FREE
+    s < capacity || day == FREE
 }
 
 // Whether every slot past those given out is free.
-pub fn past_free(table: &[u16], slots: usize) -> bool
-    requires { ⌜ length (now table) ≡ 64 ⌝ }
-    ensures { λ r. ⌜ r ≡ every 64 (λ s. ltb s slots || eqb (getD (now (table .entry)) s 0) 0) ⌝ }
+pub fn past_free(slots: &[u16], capacity: usize) -> bool
+    requires { ⌜ length (now slots) ≡ 64 ⌝ }
+    ensures { λ r. ⌜ r ≡ every 64 (λ s. ltb s capacity || eqb (getD (now (slots .entry)) s 0) 0) ⌝ }
 {
     let mut s = 0;
     while s < SLOTS {
-        if !given_or_free(s, slots, table[s]) {
+        if !given_or_free(s, capacity, slots[s]) {
             return false;
         }
         s += 1;
@@ -74,15 +74,15 @@ fn free_or_stands(days: &[u8], day: u16) -> bool
 }
 
 // Whether every used slot names a standing day.
-pub fn slots_stand(days: &[u8], table: &[u16], slots: usize) -> bool
+pub fn slots_stand(days: &[u8], slots: &[u16], capacity: usize) -> bool
     requires { ⌜ length (now days) ≡ 366 ⌝ }
-    requires { ⌜ length (now table) ≡ 64 ⌝ }
-    requires { ⌜ slots ≤ 64 ⌝ }
-    ensures { λ r. ⌜ r ≡ every slots (λ s. eqb (getD (now (table .entry)) s 0) 0 || (leb (getD (now (table .entry)) s 0) 366 && eqb (getD (now (days .entry)) (getD (now (table .entry)) s 0 - 1) 0) 1)) ⌝ }
+    requires { ⌜ length (now slots) ≡ 64 ⌝ }
+    requires { ⌜ capacity ≤ 64 ⌝ }
+    ensures { λ r. ⌜ r ≡ every capacity (λ s. eqb (getD (now (slots .entry)) s 0) 0 || (leb (getD (now (slots .entry)) s 0) 366 && eqb (getD (now (days .entry)) (getD (now (slots .entry)) s 0 - 1) 0) 1)) ⌝ }
 {
     let mut s = 0;
-    while s < slots {
-        if !free_or_stands(days, table[s]) {
+    while s < capacity {
+        if !free_or_stands(days, slots[s]) {
             return false;
         }
         s += 1;
@@ -98,39 +98,39 @@ fn hit(x: u16, y: u16) -> u32
 }
 
 // How many slots hold this day.
-pub fn slots_of(table: &[u16], slots: usize, day: u16) -> u32
-    requires { ⌜ length (now table) ≡ 64 ⌝ }
-    requires { ⌜ slots ≤ 64 ⌝ }
-    ensures { λ r. ⌜ r ≡ many slots (λ s. eqb (getD (now (table .entry)) s 0) day) ⌝ }
+pub fn slots_of(slots: &[u16], capacity: usize, day: u16) -> u32
+    requires { ⌜ length (now slots) ≡ 64 ⌝ }
+    requires { ⌜ capacity ≤ 64 ⌝ }
+    ensures { λ r. ⌜ r ≡ many capacity (λ s. eqb (getD (now (slots .entry)) s 0) day) ⌝ }
 {
     let mut n = 0u32;
     let mut s = 0;
-    while s < slots {
-        n += hit(table[s], day);
+    while s < capacity {
+        n += hit(slots[s], day);
         s += 1;
     }
     n
 }
 
 // Whether a day does not stand, or has exactly one slot.
-fn idle_or_once(table: &[u16], slots: usize, state: u8, day: u16) -> bool
-    requires { ⌜ length (now table) ≡ 64 ⌝ }
-    requires { ⌜ slots ≤ 64 ⌝ }
-    ensures { λ r. ⌜ r ≡ not (eqb state 1) || eqb (many slots (λ s. eqb (getD (now (table .entry)) s 0) day)) 1 ⌝ }
+fn idle_or_once(slots: &[u16], capacity: usize, state: u8, day: u16) -> bool
+    requires { ⌜ length (now slots) ≡ 64 ⌝ }
+    requires { ⌜ capacity ≤ 64 ⌝ }
+    ensures { λ r. ⌜ r ≡ not (eqb state 1) || eqb (many capacity (λ s. eqb (getD (now (slots .entry)) s 0) day)) 1 ⌝ }
 {
-    state != STANDING || slots_of(table, slots, day) == 1
+    state != STANDING || slots_of(slots, capacity, day) == 1
 }
 
 // Whether every standing day has exactly one slot.
-pub fn one_slot(days: &[u8], table: &[u16], slots: usize) -> bool
+pub fn one_slot(days: &[u8], slots: &[u16], capacity: usize) -> bool
     requires { ⌜ length (now days) ≡ 366 ⌝ }
-    requires { ⌜ length (now table) ≡ 64 ⌝ }
-    requires { ⌜ slots ≤ 64 ⌝ }
-    ensures { λ r. ⌜ r ≡ every 366 (λ i. not (eqb (getD (now (days .entry)) i 0) 1) || eqb (many slots (λ s. eqb (getD (now (table .entry)) s 0) (i + 1))) 1) ⌝ }
+    requires { ⌜ length (now slots) ≡ 64 ⌝ }
+    requires { ⌜ capacity ≤ 64 ⌝ }
+    ensures { λ r. ⌜ r ≡ every 366 (λ i. not (eqb (getD (now (days .entry)) i 0) 1) || eqb (many capacity (λ s. eqb (getD (now (slots .entry)) s 0) (i + 1))) 1) ⌝ }
 {
     let mut i = 0;
     while i < DAYS {
-        if !idle_or_once(table, slots, days[i], (i + 1) as u16) {
+        if !idle_or_once(slots, capacity, days[i], (i + 1) as u16) {
             return false;
         }
         i += 1;
@@ -139,14 +139,14 @@ pub fn one_slot(days: &[u8], table: &[u16], slots: usize) -> bool
 }
 
 // The first slot that holds this day, 0 for a free one, and the number of slots where there is none.
-pub fn find(table: &[u16], slots: usize, day: u16) -> usize
-    requires { ⌜ length (now table) ≡ 64 ⌝ }
-    requires { ⌜ slots ≤ 64 ⌝ }
-    ensures { λ r. ⌜ r ≡ seek (λ s. eqb (getD (now (table .entry)) s 0) day) slots 0 ⌝ }
+pub fn find(slots: &[u16], capacity: usize, day: u16) -> usize
+    requires { ⌜ length (now slots) ≡ 64 ⌝ }
+    requires { ⌜ capacity ≤ 64 ⌝ }
+    ensures { λ r. ⌜ r ≡ seek (λ s. eqb (getD (now (slots .entry)) s 0) day) capacity 0 ⌝ }
 {
     let mut s = 0;
-    while s < slots {
-        if table[s] == day {
+    while s < capacity {
+        if slots[s] == day {
             return s;
         }
         s += 1;
@@ -172,23 +172,23 @@ pub fn days_in(days: &[u8], q: u8) -> u32
 pub fn filed_holds(c: crate::Campaign) -> bool
     ensures { λ r. ⌜ r ≡ slotsHold c && statesHold c && pastFree c && slotsStand c && oneSlot c ⌝ }
 {
-    let slots = c.slots as usize;
+    let capacity = c.capacity as usize;
     let days = c.days;
-    let table = c.table;
-    if slots < 1 {
+    let slots = c.slots;
+    if capacity < 1 {
         return false;
     }
-    if slots > SLOTS {
+    if capacity > SLOTS {
         return false;
     }
     if !states_hold(&days) {
         return false;
     }
-    if !past_free(&table, slots) {
+    if !past_free(&slots, capacity) {
         return false;
     }
-    if !slots_stand(&days, &table, slots) {
+    if !slots_stand(&days, &slots, capacity) {
         return false;
     }
-    one_slot(&days, &table, slots)
+    one_slot(&days, &slots, capacity)
 }

@@ -1,5 +1,5 @@
 // The shift register: its taps judged, its sequence written.
-pub mod far;
+pub mod doubling;
 pub mod sequence;
 pub mod shift;
 pub mod taps;

@@ -1,6 +1,6 @@
 // Taps: judged by the first return of the tags, which comes after the full period where the register's does, and is looked for at the period over its
 // primes alone.
-use crate::far::tag_at;
+use crate::doubling::tag_at;
 use crate::shift::full_period;
 ghost use mathlib.Core.Path.{_≡_};
 ghost use mathlib.Core.Bool.{_&&_};

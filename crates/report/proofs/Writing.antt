@@ -25,6 +25,9 @@ wrote-more {a} {b} {k} {m} {n} {l} {s} {t} v w =
       size = rw (length-append a b) (omega (arith, v .size, w .size));
     }
 
+pub wrote-three : {a b c : List ℕ} {k m n o : ℕ} {l s t u : List ℕ} → Wrote a k l m s → Wrote b m s n t → Wrote c n t o u → Wrote (a ++ b ++ c) k l o u
+wrote-three v w x = wrote-more (wrote-more v w) x
+
 pub wrote-two : (a b : List ℕ) {x : List ℕ} {k m n : ℕ} {l s t : List ℕ} → Wrote x k l m s → Wrote (a ++ b) m s n t → Wrote (x ++ a ++ b) k l n t
 wrote-two a b {x} v w = rw (append-assoc x a b) (wrote-more v w)
 

@@ -65,7 +65,7 @@ abbrev pub responseLine : ℕ → Tally → List ℕ
 responseLine answer t =
     ascii "response" ++ spaced answer ++ spaced (t .standing) ++ spaced (t .overloaded) ++ spaced (t .dead) ++ spaced (t .withdrawn) ++ lineEnd
 
--- the line that a record makes
+-- the line that an item makes
 abbrev pub lineBytes : Line → List ℕ
 lineBytes line.Silent = []
 lineBytes (line.Started answer) = startLine answer

@@ -1,10 +1,10 @@
-// The lines that a log's records make, as bytes.
+// The lines that a log's items make, as bytes.
 pub mod printing;
 
 use campaign::Entry;
 use trend::Tally;
 
-// The line that a record makes.
+// The line that an item makes.
 pub enum Line {
     Silent,
     // The answer.
@@ -16,8 +16,11 @@ pub enum Line {
     Answered(u32, Tally),
 }
 
+// Room for the longest line.
+pub const LINE_ROOM: usize = 128;
+
 // A line's bytes: the first `length` of them.
 pub struct Text {
-    pub bytes: [u8; 128],
+    pub bytes: [u8; LINE_ROOM],
     pub length: usize,
 }

@@ -1,20 +1,29 @@
 // The lines as bytes: each writer puts its text into a buffer from a place on, and answers the place past it.
+use crate::LINE_ROOM;
 use crate::Line;
 use crate::Text;
 use campaign::Entry;
 use campaign::Verdict;
-use rounding::means::size;
+use samples::size::size;
 use trend::Tally;
 ghost use mathlib.Core.Path.{_≡_};
 ghost use mathlib.Core.List.{List, [], _∷_, _++_};
 ghost use Prim.Native.Nat.{_+_, _≤_, _<_};
 ghost use lib.ListN.{length, take, drop};
 ghost use Rattle.campaign.specs.Calls.{verdictNumber};
-ghost use Rattle.report.specs.Lines.{decimal, decimalZ, spaced, verdictWord, startLine, enterLine, withdrawLine, responseLine, lineBytes, rowBytes, badBytes, Wrote};
+ghost use Rattle.report.specs.Lines.{decimal, decimalZ, spaced, verdictWord, startLine, enterLine, withdrawLine, responseLine};
+ghost use Rattle.report.specs.Lines.{lineBytes, rowBytes, badBytes, Wrote};
 
 const SPACE: u8 = 32;
 
 const LINE_END: u8 = 10;
+
+const ZERO: u8 = 48;
+
+// The digits of the largest number, and the place of its last one.
+const DIGITS: usize = 20;
+
+const LAST_DIGIT: usize = 19;
 
 fn put_byte(b: u8, out: &mut [u8], at: usize) -> usize
     requires { ⌜ at < length (now out) ⌝ }
@@ -36,19 +45,19 @@ pub fn put_word(word: &[u8], out: &mut [u8], at: usize) -> usize
     at + i
 }
 
-// A number's digits at the end of a room for 20, from the place that is answered.
+// A number's digits at the end of a room for them, from the place that is answered.
 fn fill_digits(n: u64, room: &mut [u8]) -> usize
     requires { ⌜ length (now room) ≡ 20 ⌝ }
     ensures { λ r. ⌜ (drop r (now (room .exit)) ≡ decimal n) × (r < 20) ⌝ }
 {
-    let mut i = 19;
+    let mut i = LAST_DIGIT;
     let mut rest = n;
     while 10 <= rest {
-        room[i] = 48 + (rest % 10) as u8;
+        room[i] = ZERO + (rest % 10) as u8;
         rest /= 10;
         i -= 1;
     }
-    room[i] = 48 + rest as u8;
+    room[i] = ZERO + rest as u8;
     i
 }
 
@@ -56,7 +65,7 @@ fn put_number(n: u64, out: &mut [u8], at: usize) -> usize
     requires { ⌜ at + 20 ≤ length (now out) ⌝ }
     ensures { λ r. ⌜ Wrote (decimal n) at (now (out .entry)) r (now (out .exit)) × (r ≤ at + 20) ⌝ }
 {
-    let mut room = [0u8; 20];
+    let mut room = [0u8; DIGITS];
     let from = fill_digits(n, &mut room);
     put_word(&room[from..], out, at)
 }
@@ -196,11 +205,11 @@ fn write_bad(offset: u64, out: &mut [u8]) -> usize
     put_byte(LINE_END, out, at)
 }
 
-// The line that a record makes.
+// The line that an item makes.
 pub fn line_text(line: Line) -> Text
     ensures { λ r. ⌜ (take (r .length) (r .bytes) ≡ lineBytes line) × (r .length ≤ 128) ⌝ }
 {
-    let mut bytes = [0u8; 128];
+    let mut bytes = [0u8; LINE_ROOM];
     let length = write_line(line, &mut bytes);
     Text { bytes, length }
 }
@@ -209,7 +218,7 @@ pub fn line_text(line: Line) -> Text
 pub fn row_text(k: u64, r: i64, mean: i64) -> Text
     ensures { λ x. ⌜ (take (x .length) (x .bytes) ≡ rowBytes k r mean) × (x .length ≤ 128) ⌝ }
 {
-    let mut bytes = [0u8; 128];
+    let mut bytes = [0u8; LINE_ROOM];
     let length = write_row(k, r, mean, &mut bytes);
     Text { bytes, length }
 }
@@ -218,7 +227,7 @@ pub fn row_text(k: u64, r: i64, mean: i64) -> Text
 pub fn bad_text(offset: u64) -> Text
     ensures { λ r. ⌜ (take (r .length) (r .bytes) ≡ badBytes offset) × (r .length ≤ 128) ⌝ }
 {
-    let mut bytes = [0u8; 128];
+    let mut bytes = [0u8; LINE_ROOM];
     let length = write_bad(offset, &mut bytes);
     Text { bytes, length }
 }

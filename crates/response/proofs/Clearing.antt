@@ -1,17 +1,17 @@
 -- A room that was laid out, transformed and cleared is the room that was lent, cleared; and a room of zeros is so already. Assumes nothing.
-use mathlib.Core.Path.{_≡_, refl, sym, ap, _∙_}
+use mathlib.Core.Path.{_≡_, sym, ap, _∙_}
 use mathlib.Core.List.{List, _++_}
-use Prim.Native.Nat.{ℕ, _+_, _-_, _^_, _≤_, _<_}
+use Prim.Native.Nat.{ℕ, _+_, _-_, _^_}
 use native.Mathlib.Numerals.{add-one}
 use native.Mathlib.Omega.{arith}
 use lib.IntN.{ℤ, pos}
-use lib.ListN.{length, drop, length-drop}
+use lib.ListN.{drop, length-drop}
 use lib.Pow.{suc-ones}
 use lib.Seq.{drop-at, ext-getD, getD-drop}
-use Rattle.sums.specs.Lists.{at, table, put}
-use Rattle.sums.proofs.Tables.{length-table, put-table, by-places}
+use Rattle.sums.specs.Lists.{table, put}
+use Rattle.sums.proofs.Tables.{length-table, put-table}
 use Rattle.register.specs.Register.{P}
-use Rattle.response.specs.Calls.{clearedWide}
+use Rattle.samples.specs.Samples.{clearedWide}
 use Rattle.response.specs.Route.{Laid}
 
 module _ (N : ℕ) {place : ℕ → ℕ} {y : ℕ → ℤ} {was v : List ℤ} (laid : Laid (P N) place y was v) where
@@ -31,6 +31,3 @@ module _ (N : ℕ) {place : ℕ → ℕ} {y : ℕ → ℤ} {was v : List ℤ} (l
       ∙ drop-at (table (2 ^ N) f) (drop (2 ^ N) v) (P N + 1) (length-table (2 ^ N) f ∙ sym e)
       ∙ ap (λ n. drop n v) (sym e) ∙ kept)
       ∙ sym (put-table (P N + 1) (λ _. pos 0) was)
-
-pub cleared-zeros : (n : ℕ) (v : List ℤ) → n ≤ length v → ((i : ℕ) → i < n → at v i ≡ pos 0) → clearedWide n v ≡ v
-cleared-zeros n v l zeros = sym (by-places (pos 0) n (λ _. pos 0) v v l refl zeros (λ i _. refl))

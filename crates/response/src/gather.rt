@@ -1,5 +1,5 @@
 // The last step of the fast route: the transform read at the places of a walk.
-use register::far::tag_at;
+use register::doubling::tag_at;
 use register::shift::tag_step;
 ghost use mathlib.Core.Path.{_≡_};
 ghost use Prim.Native.Nat.{ℕ, _-_, _^_, _≤_, _<_};

@@ -1,10 +1,9 @@
 // One recording turned into its response, by the fast route in lent room.
-use crate::range::some_out;
+use crate::given::given_refusal;
 use crate::respond::finish;
-use crate::rooms::room_short;
 use crate::spread::spread;
-use register::shift::full_period;
-use register::taps::check_taps;
+use samples::lengths::room_short;
+use samples::range::some_out;
 ghost use mathlib.Core.Path.{_≡_};
 ghost use mathlib.Core.Bool.{false};
 ghost use Prim.Native.Nat.{_+_, _*_, _≤_, _<_};
@@ -12,7 +11,8 @@ ghost use lib.ListN.{length};
 ghost use Rattle.sums.specs.Lists.{at, table, put};
 ghost use Rattle.register.specs.Register.{P, wave, Accepted};
 ghost use Rattle.response.specs.Response.{response};
-ghost use Rattle.response.specs.Calls.{someOut, clearedWide, clearedTags, recordingOutcome};
+ghost use Rattle.samples.specs.Samples.{someOut, clearedWide, clearedTags};
+ghost use Rattle.response.specs.Calls.{recordingOutcome};
 
 // The response of a recording that has passed the checks: into the output, and the room cleared.
 fn turn(order: u32, taps: u32, y: &[i32], out: &mut [i64], room: &mut [i64], tags: &mut [u16])
@@ -38,15 +38,11 @@ pub fn one_recording(
     ensures { λ r. ⌜ (r, now (out .exit), now (room .exit), now (tags .exit))
         ≡ recordingOutcome order taps (now (y .entry)) (now (out .entry)) (now (room .entry)) (now (tags .entry)) ⌝ }
 {
-    let refusal = check_taps(order, taps);
+    let refusal = given_refusal(order, taps, y);
     if refusal != 0 {
         return refusal;
     }
-    let period = full_period(order) as usize;
-    if y.len() != period {
-        return 5;
-    }
-    if room_short(period, out.len(), room.len(), tags.len()) {
+    if room_short(y.len(), out.len(), room.len(), tags.len()) {
         return 6;
     }
     if some_out(y) {

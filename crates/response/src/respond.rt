@@ -1,8 +1,8 @@
 // The fast route from a laid room: transformed where it lies, and read.
-use crate::clear::clear_tags;
-use crate::clear::clear_wide;
 use crate::gather::gather;
 use hadamard::transform;
+use samples::clearing::clear_tags;
+use samples::clearing::clear_wide;
 ghost use mathlib.Core.Path.{_≡_};
 ghost use Prim.Native.Nat.{ℕ, _+_, _*_, _^_, _≤_, _<_};
 ghost use mathlib.Core.List.{List};
@@ -11,7 +11,7 @@ ghost use lib.ListN.{length, take};
 ghost use Rattle.hadamard.specs.Transform.{loudness};
 ghost use Rattle.register.specs.Register.{P, window as windowOf, wave, Accepted};
 ghost use Rattle.response.specs.Response.{response};
-ghost use Rattle.response.specs.Calls.{clearedWide, clearedTags};
+ghost use Rattle.samples.specs.Samples.{clearedWide, clearedTags};
 ghost use Rattle.response.specs.Route.{Laid, spectrum, read};
 ghost use Rattle.sums.specs.Lists.{table, put};
 

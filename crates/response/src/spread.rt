@@ -1,7 +1,7 @@
 // The first step of the fast route: numbers laid out in a room of P+1 by the places of a walk that meets each place but 0 once. A walk goes in two
 // strands side by side, from its start and from its middle, and its last place is left for the end.
-use register::far::tag_at;
-use register::far::window_at;
+use register::doubling::tag_at;
+use register::doubling::window_at;
 use register::shift::full_period;
 use register::shift::step;
 use register::shift::tag_step;

@@ -1,14 +1,25 @@
 // A quotient rounded to nearest, halves away from zero: the sizes are divided, and the sign is put back.
 use crate::Halved;
+use samples::size::size;
 ghost use mathlib.Core.Path.{_≡_};
 ghost use mathlib.Core.Bool.{false};
 ghost use Prim.Native.Nat.{ℕ, _*_, _≤_, _<_, _^_};
 ghost use lib.IntN.{natAbs};
 ghost use lib.ListN.{length};
 ghost use Rattle.sums.specs.Lists.{at, table, put};
-ghost use Rattle.response.specs.Calls.{sampleOut};
+ghost use Rattle.samples.specs.Samples.{sampleOut};
 ghost use Rattle.rounding.specs.Rounding.{nearest, rounded};
 ghost use Rattle.rounding.specs.Halving.{Split, reciprocal as reciprocalOf, withSign};
+
+// How often a divisor is halved at most, and the most that may be left of it for a reciprocal to be exact enough.
+const MOST_HALVINGS: u32 = 16;
+
+const MOST_LEFT: u64 = 64;
+
+// A reciprocal is a whole number over 2^36.
+const PLACES: u64 = 36;
+
+const UNIT: u64 = 68719476736;
 
 // a / d to the nearest, a half going up.
 fn near(a: u64, d: u64) -> u64
@@ -20,13 +31,13 @@ fn near(a: u64, d: u64) -> u64
     if m < d - m { q } else { q + 1 }
 }
 
-// How often 2 goes into a number, 16 times at most, and what is left of it.
+// How often 2 goes into a number, up to a limit, and what is left of it.
 fn halve(d: u64) -> Halved
     ensures { λ h. ⌜ (h .rest * 2 ^ h .times ≡ d) × (h .times ≤ 16) ⌝ }
 {
     let mut rest = d;
     let mut times = 0u32;
-    while times < 16 {
+    while times < MOST_HALVINGS {
         if rest % 2 == 1 {
             return Halved { times, rest };
         }
@@ -42,7 +53,7 @@ fn near_by(a: u64, d: u64, shift: u32, m: u64) -> u64
     ensures { λ q. ⌜ q ≡ nearest a d ⌝ }
 {
     let x = (2 * a + d) >> shift;
-    (x * m) >> 36
+    (x * m) >> PLACES
 }
 
 // The same by division where m is 0.
@@ -54,13 +65,6 @@ fn near_as(a: u64, d: u64, shift: u32, m: u64) -> u64
         return near(a, d);
     }
     near_by(a, d, shift, m)
-}
-
-// The size of a number.
-pub fn size(z: i64) -> u64
-    ensures { λ n. ⌜ n ≡ natAbs z ⌝ }
-{
-    if z < 0 { (-1 - z) as u64 + 1 } else { z as u64 }
 }
 
 // n with the sign of z.
@@ -98,8 +102,8 @@ fn reciprocal(rest: u64) -> u64
     requires { ⌜ 0 < rest ⌝ }
     ensures { λ m. ⌜ m ≡ reciprocalOf rest ⌝ }
 {
-    if rest <= 64 {
-        68719476736 / rest + 1
+    if rest <= MOST_LEFT {
+        UNIT / rest + 1
     } else {
         0
     }

@@ -1,2 +1,4 @@
--- What the program's proofs cite.
-mod Lies
+-- The laws of samples and of the room lent for them.
+pub mod Sizes
+pub mod Rails
+pub mod Rooms

@@ -4,6 +4,7 @@ use mathlib.Core.Path.{_≡_, refl, sym, ap, ap₂, subst, _∙_}
 use mathlib.Core.Bool.{Bool, true, false, cond, _&&_, _||_}
 use mathlib.Core.List.{List, _++_}
 use Prim.Native.Nat.{ℕ, zero, suc, _+_, _-_, _≤_, _<_}
+use native.Mathlib.Numerals.{add-one}
 use native.Mathlib.Decide.{ℕ-discrete}
 use native.Mathlib.Omega.{arith}
 use lib.Dec.{T}
@@ -34,6 +35,11 @@ pub or-rest : (a b : Bool) → a || b ≡ true → a ≡ false → b ≡ true
 or-rest true b h e = absurd (subst T e tt)
 or-rest false b h e = h
 
+-- a truth value that cannot be true is false
+pub never-true : (b : Bool) → (b ≡ true → ⊥) → b ≡ false
+never-true true h = absurd (h refl)
+never-true false h = refl
+
 -- ---- every
 
 pub every-at : (n : ℕ) (test : ℕ → Bool) → every n test ≡ true → (i : ℕ) → i < n → test i ≡ true
@@ -47,6 +53,24 @@ pub every-all : (n : ℕ) (test : ℕ → Bool) → ((i : ℕ) → i < n → tes
 unfolding every
 every-all zero test h = refl
 every-all (suc n) test h = both-true (every-all n test (λ i l. h i (omega arith))) (h n (omega arith))
+
+-- only the places below n count
+pub every-ext : (n : ℕ) {f g : ℕ → Bool} → ((i : ℕ) → i < n → f i ≡ g i) → every n f ≡ every n g
+unfolding every
+every-ext zero h = refl
+every-ext (suc n) h = ap₂ _&&_ (every-ext n (λ i l. h i (omega arith))) (h n (omega arith))
+
+module _ (test : ℕ → Bool) where
+  pub every-fails : (n j : ℕ) → j < n → test j ≡ false → every n test ≡ false
+  every-fails n j l e = never-true (every n test) (λ h. subst T (sym (every-at n test h j l) ∙ e) tt)
+
+  pub every-more : (j : ℕ) → every j test ≡ true → test j ≡ true → every (j + 1) test ≡ true
+  unfolding every
+  every-more j h e = rw add-one (both-true h e)
+
+  pub every-next : (j : ℕ) → every (j + 1) test ≡ every j test && test j
+  unfolding every
+  every-next j = rw add-one refl
 
 -- ---- many
 
@@ -87,6 +111,21 @@ many-one (suc n) test h i j a b t u = elim (ℕ-discrete i n) [
 
     before : 1 ≤ many n test → many n test ≡ 1
     before l = omega arith
+
+module _ (test : ℕ → Bool) where
+  -- one place more, as a loop counts it
+  pub many-more : (n : ℕ) {a h : ℕ} → a ≡ many n test → h ≡ cond (test n) 1 0 → a + h ≡ many (n + 1) test
+  unfolding many total
+  many-more n p q = rw (p, q, add-one)
+
+  pub many-most : (n : ℕ) → many n test ≤ n
+  unfolding many total
+  many-most zero = omega arith
+  many-most (suc n) = omega (arith, many-most n, one (test n))
+    where
+      one : (b : Bool) → cond b 1 0 ≤ 1
+      one true = omega arith
+      one false = omega arith
 
 -- ---- put from some place on
 

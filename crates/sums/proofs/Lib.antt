@@ -12,3 +12,5 @@ pub mod First
 pub mod Seek
 pub mod Somewhere
 pub mod Everywhere
+pub mod Equal
+pub mod Parts

@@ -1,7 +1,9 @@
--- The first place at which a test holds: none before it does, and it does where it is within what was sought. Assumes nothing.
+-- The first place at which a test holds: none before it does, and it does where it is within what was sought. A loop that looks at place after
+-- place finds it. Assumes nothing.
 use mathlib.Core.Path.{_≡_, refl, sym, ap, _∙_}
 use mathlib.Core.Bool.{Bool, true, false, cond}
-use Prim.Native.Nat.{ℕ, zero, suc, _+_, _≤_, _<_}
+use Prim.Native.Nat.{ℕ, zero, suc, _+_, _-_, _≤_, _<_}
+use native.Mathlib.Numerals.{add-one}
 use native.Mathlib.Decide.{ℕ-discrete, decLt}
 use native.Mathlib.Omega.{arith}
 use Rattle.sums.specs.Lists.{seek}
@@ -49,3 +51,26 @@ module _ (test : ℕ → Bool) where
     where
       less : {p q : ℕ} → First n k p → First n k q → p < q → ⊥
       less {p} {q} a b l = true-not-false (a .here (omega (arith, b .to))) (b .before p (a .from) l)
+
+-- ---- a loop that looks at place after place
+
+module _ (test : ℕ → Bool) where
+  -- what is sought lies from place s on
+  abbrev pub Ahead : ℕ → ℕ → Type 0
+  Ahead n s = seek test n 0 ≡ seek test (n - s) s
+
+  pub ahead-none : (n : ℕ) → Ahead n 0
+  ahead-none n = ap (λ k. seek test k 0) (omega arith)
+
+  next : {n s : ℕ} → s < n → Ahead n s → seek test n 0 ≡ seek test (suc (n - suc s)) s
+  next {n} {s} l h = h ∙ ap (λ k. seek test k s) (omega arith)
+
+  pub ahead-more : {n s : ℕ} → s < n → Ahead n s → test s ≡ false → Ahead n (s + 1)
+  ahead-more {n} {s} l h t = rw add-one (next l h ∙ seek-past test (n - suc s) s t)
+
+  pub ahead-here : {n s : ℕ} → s < n → Ahead n s → test s ≡ true → s ≡ seek test n 0
+  ahead-here {n} {s} l h t = sym (next l h ∙ seek-here test (n - suc s) s t)
+
+  pub ahead-end : {n s : ℕ} → n ≤ s → Ahead n s → s ≡ seek test n 0
+  unfolding seek
+  ahead-end {n} {s} l h = let e : n - s ≡ 0 = omega arith in sym (h ∙ ap (λ k. seek test k s) e)

@@ -1,5 +1,6 @@
 -- What the definitions of every crate are written with.
 pub mod Sum
 pub mod Lists
+pub mod Equal
 pub mod Refusals
 pub mod Text

@@ -12,8 +12,8 @@ use Rattle.sums.specs.Lists.{at, many}
 use Rattle.register.specs.Register.{P}
 use Rattle.register.proofs.Judged.{generator}
 use Rattle.register.proofs.Word.{small}
-use Rattle.response.specs.Calls.{sampleOut}
-use Rattle.response.proofs.Samples.{size-inside}
+use Rattle.samples.specs.Samples.{sampleOut}
+use Rattle.samples.proofs.Sizes.{size-inside}
 use Rattle.rounding.proofs.Nearest.{rounded-bound}
 use Rattle.response.proofs.Register.{response-bound}
 use Rattle.records.specs.Record.{unseen, standing, overloaded, dead, withdrawn, state, daysIn}

@@ -24,7 +24,7 @@ use Rattle.sums.proofs.Seek.{First, seek-first}
 use Rattle.register.specs.Register.{P}
 use Rattle.records.specs.Record.{standing, daysIn}
 use Rattle.records.specs.declared.Campaign.{Campaign}
-use Rattle.records.proofs.Tests.{le-is, leZ-refl, leZ-trans, leZ-turn}
+use Rattle.sums.proofs.Equal.{le-is, leZ-refl, leZ-trans, leZ-turn}
 use Rattle.records.proofs.Holding.{Together}
 use Rattle.trend.specs.Calls.{worked, divisor, largestAt, level}
 use Rattle.trend.proofs.Bounds.{divisor-small, worked-small}

@@ -10,8 +10,8 @@ use lib.ListN.{length}
 use Rattle.sums.specs.Refusals.{first}
 use Rattle.sums.proofs.First.{passes, or-false}
 use Rattle.register.specs.Register.{P}
-use Rattle.response.specs.Calls.{workShort}
-use Rattle.response.proofs.Lengths.{work-long}
+use Rattle.samples.specs.Samples.{workShort}
+use Rattle.samples.proofs.Rooms.{work-long}
 use Rattle.records.specs.Record.{standing, daysIn}
 use Rattle.records.specs.declared.Campaign.{Campaign}
 use Rattle.records.proofs.Holding.{Together, not-apart}

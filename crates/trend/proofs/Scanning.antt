@@ -11,7 +11,7 @@ use Rattle.sums.specs.Lists.{every}
 use Rattle.sums.proofs.Diff.{up, down, parts, diffs}
 use Rattle.sums.proofs.Everywhere.{every-at, every-all}
 use Rattle.sums.proofs.Seek.{First, seek-first, first-unique}
-use Rattle.records.proofs.Tests.{leZ-refl, leZ-trans, leZ-turn}
+use Rattle.sums.proofs.Equal.{leZ-refl, leZ-trans, leZ-turn}
 use Rattle.trend.specs.Calls.{largestAt}
 
 module _ (g : ℤ → ℤ) (r : ℕ → ℤ) (n : ℕ) where

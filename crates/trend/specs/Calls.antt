@@ -13,7 +13,7 @@ use Rattle.sums.specs.Refusals.{outcome, Meaning, accepts, refuses}
 use Rattle.register.specs.Register.{P, wave}
 use Rattle.response.specs.Response.{response}
 use Rattle.rounding.specs.Rounding.{rounded}
-use Rattle.response.specs.Calls.{workShort, clearedWide, clearedTags}
+use Rattle.samples.specs.Samples.{workShort, clearedWide, clearedTags}
 use Rattle.records.specs.Record.{unseen, standing, overloaded, dead, withdrawn, daysIn, apart}
 use Rattle.records.specs.declared.Campaign.{Campaign}
 use Rattle.trend.specs.declared.Tally.{Tally}

@@ -2,10 +2,10 @@
 use crate::rooms::answer_short;
 use records::Campaign;
 use records::STANDING;
-use records::reread::holds;
 use records::tables::days_in;
+use records::together::holds;
 use register::shift::full_period;
-use response::wide::turn_wide;
+use response::of_sums::turn_sums;
 use rounding::means::write_means;
 ghost use mathlib.Core.Path.{_≡_};
 ghost use mathlib.Core.Bool.{_||_};
@@ -13,7 +13,7 @@ ghost use mathlib.Core.List.{List, [], _∷_};
 ghost use lib.Dec.{eqb, ltb};
 ghost use Rattle.sums.specs.Refusals.{first};
 ghost use Rattle.register.specs.Register.{P};
-ghost use Rattle.response.specs.Calls.{workShort};
+ghost use Rattle.samples.specs.Samples.{workShort};
 ghost use Rattle.records.specs.Record.{standing, daysIn, apart};
 ghost use Rattle.trend.specs.Calls.{responseOutcome};
 
@@ -67,7 +67,7 @@ pub fn response(
     let days = c.days;
     let period = full_period(order) as usize;
     let divisor = (period as u64 + 1) * days_in(&days, STANDING) as u64;
-    turn_wide(order, taps, sums, r, room, tags);
+    turn_sums(order, taps, sums, r, room, tags);
     write_means(r, mean, period, divisor);
     0
 }

@@ -7,8 +7,8 @@ use records::OVERLOADED;
 use records::STANDING;
 use records::UNSEEN;
 use records::WITHDRAWN;
-use records::reread::holds;
 use records::tables::days_in;
+use records::together::holds;
 ghost use mathlib.Core.Path.{_≡_};
 ghost use Rattle.trend.specs.Calls.{tally, countsOutcome};
 

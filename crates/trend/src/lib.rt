@@ -1,9 +1,9 @@
 // What a campaign says: counts, response, summary.
 pub mod answering;
 pub mod counting;
+mod measuring;
 mod rooms;
-mod sizes;
-pub mod summing;
+pub mod summarising;
 
 // The days in each of the five states.
 pub struct Tally {

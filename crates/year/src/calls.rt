@@ -1,4 +1,9 @@
 // Each call with its line.
+use crate::Held;
+use crate::PLACES;
+use crate::Store;
+use crate::TAGS;
+use campaign::Entry;
 use campaign::Verdict;
 use campaign::entering::enter;
 use campaign::starting::start;
@@ -15,24 +20,50 @@ use trend::Counts;
 use trend::Summary;
 use trend::answering::response;
 use trend::counting::counts;
-use trend::summing::summary;
-ghost use mathlib.Core.Path.{_≡_};
+use trend::summarising::summary;
 ghost use Prim.Native.Nat.{_≤_};
 ghost use lib.ListN.{length};
+ghost use Rattle.year.specs.Lent.{places, recording, tagPlaces, Within};
 
+// What is held, with the record and the sums as a call left them.
+fn with_record(held: Held, campaign: Campaign, sums: [i64; PLACES]) -> Held {
+    let mut next = held;
+    next.campaign = campaign;
+    next.sums = sums;
+    next
+}
+
+fn start_words(answer: u32) {
+    word(b"start");
+    number(answer as u64);
+    line_end();
+}
+
+// A start with the front parts of these lengths.
 pub fn start_line(
-    c: Campaign,
+    held: Held,
+    store: &mut [i32],
     order: u32,
     taps: u32,
     slots: u32,
-    store: &mut [i32],
-    sums: &mut [i64],
-) -> Campaign {
-    let done = start(c, order, taps, slots, store, sums);
-    word(b"start");
-    number(done.answer as u64);
-    line_end();
-    done.campaign
+    samples: usize,
+    wide: usize,
+) -> Held
+    requires { ⌜ (samples ≤ length (now store)) × (wide ≤ places) ⌝ }
+{
+    let mut sums = held.sums;
+    let c = held.campaign;
+    let done = start(
+        c,
+        order,
+        taps,
+        slots,
+        &mut store[..samples],
+        &mut sums[..wide],
+    );
+    start_words(done.answer);
+    let after = done.campaign;
+    with_record(held, after, sums)
 }
 
 fn verdict_words(verdict: Verdict) {
@@ -53,29 +84,45 @@ fn verdict_words(verdict: Verdict) {
     }
 }
 
-pub fn enter_line(c: Campaign, store: &mut [i32], sums: &mut [i64], d: u32, y: &[i32]) -> Campaign {
-    let done = enter(c, store, sums, d, y);
-    let entry = done.entry;
+fn entry_words(entry: Entry) {
     let verdict = entry.verdict;
     word(b"enter");
     number(entry.day as u64);
     verdict_words(verdict);
     line_end();
-    done.campaign
 }
 
-pub fn withdraw_line(c: Campaign, store: &mut [i32], sums: &mut [i64], d: u32) -> Campaign {
-    let done = withdraw(c, store, sums, d);
+// The first samples of the recording at hand, entered.
+pub fn enter_line(held: Held, store: &mut Store, d: u32, samples: usize) -> Held
+    requires { ⌜ samples ≤ recording ⌝ }
+{
+    let mut sums = held.sums;
+    let y = held.y;
+    let c = held.campaign;
+    let done = enter(c, store, &mut sums, d, &y[..samples]);
+    let entry = done.entry;
+    entry_words(entry);
+    let after = done.campaign;
+    with_record(held, after, sums)
+}
+
+pub fn withdraw_line(held: Held, store: &mut Store, d: u32) -> Held {
+    let mut sums = held.sums;
+    let c = held.campaign;
+    let done = withdraw(c, store, &mut sums, d);
     word(b"withdraw");
     number(d as u64);
     number(done.answer as u64);
     line_end();
-    done.campaign
+    let after = done.campaign;
+    with_record(held, after, sums)
 }
 
-pub fn counts_line(c: Campaign, store: &[i32], sums: &[i64]) {
+fn counts_line(held: Held, store: &Store) {
+    let sums = held.sums;
+    let c = held.campaign;
     word(b"counts");
-    match counts(c, store, sums) {
+    match counts(c, store, &sums) {
         Counts::Counted(t) => {
             number(0);
             number(t.unseen as u64);
@@ -93,46 +140,61 @@ pub fn counts_line(c: Campaign, store: &[i32], sums: &[i64]) {
 }
 
 // The digests that end the line of a response or a summary.
-fn rooms(room: &[i64], tags: &[u16]) {
-    number(digest_wide(room));
-    number(digest_tags(tags));
+fn rooms(held: Held) {
+    let room = held.room;
+    let tags = held.tags;
+    number(digest_wide(&room));
+    number(digest_tags(&tags));
     line_end();
+}
+
+fn response_words(answer: u32, held: Held) {
+    let r = held.r;
+    let mean = held.mean;
+    word(b"response");
+    number(answer as u64);
+    number(digest_wide(&r));
+    number(digest_samples(&mean));
+    rooms(held);
 }
 
 // A response into the front parts of these lengths.
 pub fn response_line(
-    c: Campaign,
-    store: &[i32],
-    sums: &[i64],
-    r: &mut [i64],
-    mean: &mut [i32],
-    room: &mut [i64],
-    tags: &mut [u16],
-    places: usize,
+    held: Held,
+    store: &Store,
+    values: usize,
     means: usize,
     wide: usize,
     tagged: usize,
-)
-    requires { ⌜ (places ≤ length (now r)) × (means ≤ length (now mean)) ⌝ }
-    requires { ⌜ (wide ≤ length (now room)) × (tagged ≤ length (now tags)) ⌝ }
+) -> Held
+    requires { ⌜ Within values means wide tagged ⌝ }
 {
+    let c = held.campaign;
+    let sums = held.sums;
+    let mut r = held.r;
+    let mut mean = held.mean;
+    let mut room = held.room;
+    let mut tags = held.tags;
     let answer = response(
         c,
         store,
-        sums,
-        &mut r[..places],
+        &sums,
+        &mut r[..values],
         &mut mean[..means],
         &mut room[..wide],
         &mut tags[..tagged],
     );
-    word(b"response");
-    number(answer as u64);
-    number(digest_wide(r));
-    number(digest_samples(mean));
-    rooms(room, tags);
+    let mut next = held;
+    next.r = r;
+    next.mean = mean;
+    next.room = room;
+    next.tags = tags;
+    response_words(answer, next);
+    next
 }
 
 fn summary_words(s: Summary) {
+    word(b"summary");
     match s {
         Summary::Nothing => word(b" nothing"),
         Summary::Measured(levels) => {
@@ -149,58 +211,39 @@ fn summary_words(s: Summary) {
 }
 
 // A summary with the front parts of these lengths.
-pub fn summary_line(
-    c: Campaign,
-    store: &[i32],
-    sums: &[i64],
-    room: &mut [i64],
-    tags: &mut [u16],
-    wide: usize,
-    tagged: usize,
-)
-    requires { ⌜ (wide ≤ length (now room)) × (tagged ≤ length (now tags)) ⌝ }
+pub fn summary_line(held: Held, store: &Store, wide: usize, tagged: usize) -> Held
+    requires { ⌜ (wide ≤ places) × (tagged ≤ tagPlaces) ⌝ }
 {
-    let told = summary(c, store, sums, &mut room[..wide], &mut tags[..tagged]);
-    word(b"summary");
+    let c = held.campaign;
+    let sums = held.sums;
+    let mut room = held.room;
+    let mut tags = held.tags;
+    let told = summary(c, store, &sums, &mut room[..wide], &mut tags[..tagged]);
+    let mut next = held;
+    next.room = room;
+    next.tags = tags;
     summary_words(told);
-    rooms(room, tags);
+    rooms(next);
+    next
 }
 
-pub fn memory_line(store: &[i32], sums: &[i64]) {
+pub fn memory_line(held: Held, store: &Store) {
+    let sums = held.sums;
     word(b"memory");
     number(digest_samples(store));
-    number(digest_wide(sums));
+    number(digest_wide(&sums));
     line_end();
 }
 
 // Counts, a response and a summary, with all the room there is.
-pub fn answers(
-    c: Campaign,
-    store: &[i32],
-    sums: &[i64],
-    r: &mut [i64],
-    mean: &mut [i32],
-    room: &mut [i64],
-    tags: &mut [u16],
-)
-    requires { ⌜ (length (now r) ≡ 600) × (length (now mean) ≡ 600) × (length (now room) ≡ 600) × (length (now tags) ≡ 1100) ⌝ }
-{
-    counts_line(c, store, sums);
-    response_line(c, store, sums, r, mean, room, tags, 600, 600, 600, 1100);
-    summary_line(c, store, sums, room, tags, 600, 1100);
+pub fn answers(held: Held, store: &Store) -> Held {
+    counts_line(held, store);
+    let told = response_line(held, store, PLACES, PLACES, PLACES, TAGS);
+    summary_line(told, store, PLACES, TAGS)
 }
 
-pub fn ask(
-    c: Campaign,
-    store: &[i32],
-    sums: &[i64],
-    r: &mut [i64],
-    mean: &mut [i32],
-    room: &mut [i64],
-    tags: &mut [u16],
-)
-    requires { ⌜ (length (now r) ≡ 600) × (length (now mean) ≡ 600) × (length (now room) ≡ 600) × (length (now tags) ≡ 1100) ⌝ }
-{
-    answers(c, store, sums, r, mean, room, tags);
-    memory_line(store, sums);
+pub fn ask(held: Held, store: &Store) -> Held {
+    let told = answers(held, store);
+    memory_line(told, store);
+    told
 }

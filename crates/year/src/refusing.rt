@@ -1,4 +1,12 @@
 // Every refusal that the visits do not bring.
+use crate::HIGHEST;
+use crate::Held;
+use crate::LOWEST;
+use crate::PLACES;
+use crate::Plan;
+use crate::STORE;
+use crate::Store;
+use crate::TAGS;
 use crate::calls::answers;
 use crate::calls::enter_line;
 use crate::calls::memory_line;
@@ -6,182 +14,82 @@ use crate::calls::response_line;
 use crate::calls::start_line;
 use crate::calls::summary_line;
 use crate::calls::withdraw_line;
-use crate::nights::record_night;
+use crate::nights::recorded;
 use crate::signals::refused_signals;
-use records::Campaign;
-ghost use mathlib.Core.Path.{_≡_};
-ghost use Prim.Native.Nat.{_+_, _*_, _≤_, _<_};
+use records::LAST_DAY;
+use records::MOST_SLOTS;
+use register::LEAST_ORDER;
+use register::MOST_ORDER;
+ghost use Prim.Native.Nat.{_≤_, _<_};
 ghost use lib.IntN.{natAbs};
-ghost use lib.ListN.{length};
+ghost use Rattle.year.specs.Lent.{recording, Runs};
 
-// The short length at one turn, the whole at every other.
-fn length_at(k: usize, turn: usize, short: usize, whole: usize) -> usize
-    requires { ⌜ short ≤ whole ⌝ }
-    ensures { λ r. ⌜ r ≤ whole ⌝ }
+// The visit at which all this happens, and whose recording is at hand.
+pub const REFUSED_VISIT: usize = 365;
+
+fn wrong_days(held: Held, store: &mut Store, period: usize) -> Held
+    requires { ⌜ period < recording ⌝ }
 {
-    if k == turn { short } else { whole }
+    let next = enter_line(held, store, 0, period);
+    enter_line(next, store, LAST_DAY + 1, period)
 }
 
-fn wrong_day(k: usize) -> u32 {
-    match k {
-        0 => 0,
-        1 => 367,
-        _ => 1,
-    }
-}
-
-fn wrong_length(k: usize, period: usize) -> usize
-    requires { ⌜ (0 < period) × (period ≤ 511) ⌝ }
-    ensures { λ r. ⌜ r ≤ 512 ⌝ }
+fn wrong_lengths(held: Held, store: &mut Store, period: usize) -> Held
+    requires { ⌜ (0 < period) × (period < recording) ⌝ }
 {
-    if k == 2 {
-        return period - 1;
-    }
-    if k == 3 {
-        return period + 1;
-    }
-    period
+    let next = enter_line(held, store, 1, period - 1);
+    enter_line(next, store, 1, period + 1)
 }
 
-fn wrong_sample(k: usize, x: i32) -> i32 {
-    match k {
-        4 => 8388608,
-        5 => -8388609,
-        _ => x,
-    }
-}
-
-// Two days out of range, two lengths, two samples.
-fn wrong_entries(
-    c: Campaign,
-    period: usize,
-    store: &mut [i32],
-    sums: &mut [i64],
-    y: &mut [i32],
-) -> Campaign
-    requires { ⌜ (0 < period) × (period ≤ 511) × (length (now y) ≡ 512) ⌝ }
+// Above the upper rail, and below the lower.
+fn wrong_samples(held: Held, store: &mut Store, period: usize) -> Held
+    requires { ⌜ period < recording ⌝ }
 {
-    let mut e = c;
-    let mut k = 0;
-    while k < 6 {
-        y[0] = wrong_sample(k, y[0]);
-        let n = wrong_length(k, period);
-        e = enter_line(e, store, sums, wrong_day(k), &y[..n]);
-        k += 1;
-    }
-    e
+    let mut next = held;
+    next.y[0] = HIGHEST + 1;
+    next = enter_line(next, store, 1, period);
+    next.y[0] = LOWEST - 1;
+    enter_line(next, store, 1, period)
+}
+
+fn wrong_entries(held: Held, store: &mut Store, plan: Plan) -> Held
+    requires { ⌜ Runs plan ⌝ }
+{
+    let period = plan.period;
+    let mut next = wrong_days(held, store, period);
+    next = wrong_lengths(next, store, period);
+    wrong_samples(next, store, period)
+}
+
+fn wrong_withdrawals(held: Held, store: &mut Store) -> Held {
+    let next = withdraw_line(held, store, 0);
+    withdraw_line(next, store, LAST_DAY + 1)
 }
 
 // Each room one short.
-fn short_responses(
-    c: Campaign,
-    period: usize,
-    store: &[i32],
-    sums: &[i64],
-    r: &mut [i64],
-    mean: &mut [i32],
-    room: &mut [i64],
-    tags: &mut [u16],
-)
-    requires { ⌜ (0 < period) × (period ≤ 511) × (length (now r) ≡ 600) × (length (now mean) ≡ 600) × (length (now room) ≡ 600) × (length (now tags) ≡ 1100) ⌝ }
+fn short_responses(held: Held, store: &Store, period: usize) -> Held
+    requires { ⌜ (0 < period) × (period < recording) ⌝ }
 {
-    let mut k = 0;
-    while k < 4 {
-        let places = length_at(k, 0, period - 1, 600);
-        let means = length_at(k, 1, period - 1, 600);
-        let wide = length_at(k, 2, period, 600);
-        let tagged = length_at(k, 3, 2 * period - 1, 1100);
-        response_line(
-            c,
-            store,
-            sums,
-            r,
-            mean,
-            room,
-            tags,
-            places,
-            means,
-            wide,
-            tagged,
-        );
-        k += 1;
-    }
+    let short = period - 1;
+    let mut next = response_line(held, store, short, PLACES, PLACES, TAGS);
+    next = response_line(next, store, PLACES, short, PLACES, TAGS);
+    next = response_line(next, store, PLACES, PLACES, period, TAGS);
+    response_line(next, store, PLACES, PLACES, PLACES, 2 * period - 1)
 }
 
-fn short_summaries(
-    c: Campaign,
-    period: usize,
-    store: &[i32],
-    sums: &[i64],
-    room: &mut [i64],
-    tags: &mut [u16],
-)
-    requires { ⌜ (0 < period) × (period ≤ 511) × (length (now room) ≡ 600) × (length (now tags) ≡ 1100) ⌝ }
+fn short_summaries(held: Held, store: &Store, period: usize) -> Held
+    requires { ⌜ (0 < period) × (period < recording) ⌝ }
 {
-    let mut k = 0;
-    while k < 2 {
-        let wide = length_at(k, 0, period, 600);
-        let tagged = length_at(k, 1, 2 * period - 1, 1100);
-        summary_line(c, store, sums, room, tags, wide, tagged);
-        k += 1;
-    }
+    let next = summary_line(held, store, period, TAGS);
+    summary_line(next, store, PLACES, 2 * period - 1)
 }
 
-fn wrong_order(k: usize, order: u32) -> u32 {
-    match k {
-        0 => 1,
-        1 => 17,
-        _ => order,
-    }
-}
-
-fn wrong_taps(k: usize, taps: u32, beyond: u32) -> u32 {
-    match k {
-        2 => beyond,
-        3 => 2,
-        4 => 1,
-        _ => taps,
-    }
-}
-
-fn wrong_slots(k: usize, slots: u32) -> u32 {
-    match k {
-        5 => 0,
-        6 => 65,
-        _ => slots,
-    }
-}
-
-// Starts with one argument wrong, or the store or the sums one short.
-fn wrong_starts(
-    c: Campaign,
-    plan: Campaign,
-    period: usize,
-    samples: usize,
-    store: &mut [i32],
-    sums: &mut [i64],
-) -> Campaign
-    requires { ⌜ (0 < period) × (period ≤ 511) × (0 < samples) × (samples ≤ 24600) × (length (now store) ≡ 24600) × (length (now sums) ≡ 600) ⌝ }
+fn short_rooms(held: Held, store: &Store, plan: Plan) -> Held
+    requires { ⌜ Runs plan ⌝ }
 {
-    let order = plan.order;
-    let taps = plan.taps;
-    let slots = plan.slots;
-    let mut e = c;
-    let mut k = 0;
-    while k < 9 {
-        let n = length_at(k, 7, samples - 1, 24600);
-        let m = length_at(k, 8, period - 1, 600);
-        e = start_line(
-            e,
-            wrong_order(k, order),
-            wrong_taps(k, taps, period as u32 + 1),
-            wrong_slots(k, slots),
-            &mut store[..n],
-            &mut sums[..m],
-        );
-        k += 1;
-    }
-    e
+    let period = plan.period;
+    let next = short_responses(held, store, period);
+    short_summaries(next, store, period)
 }
 
 // By one more or one less, where it is small.
@@ -197,144 +105,86 @@ fn shifted(v: i64, by: i64) -> i64
     v + by
 }
 
-fn shift_sum(sums: &mut [i64], by: i64)
-    requires { ⌜ (0 < length (now sums)) × (natAbs by ≤ 1) ⌝ }
+fn shift_sum(held: Held, by: i64) -> Held
+    requires { ⌜ natAbs by ≤ 1 ⌝ }
 {
-    sums[0] = shifted(sums[0], by);
+    let sum = held.sums[0];
+    let mut next = held;
+    next.sums[0] = shifted(sum, by);
+    next
 }
 
-// Entries, withdrawals and rooms, then one more in sum 0.
-fn early(
-    k: usize,
-    c: Campaign,
-    period: usize,
-    store: &mut [i32],
-    sums: &mut [i64],
-    y: &mut [i32],
-    r: &mut [i64],
-    mean: &mut [i32],
-    room: &mut [i64],
-    tags: &mut [u16],
-) -> Campaign
-    requires { ⌜ (2 ≤ period) × (period ≤ 511) × (length (now store) ≡ 24600) × (length (now sums) ≡ 600) × (length (now y) ≡ 512) ⌝ }
-    requires { ⌜ (length (now r) ≡ 600) × (length (now mean) ≡ 600) × (length (now room) ≡ 600) × (length (now tags) ≡ 1100) ⌝ }
+// Calls with one more in sum 0, and then one less in it.
+fn wrong_sums(held: Held, store: &mut Store, plan: Plan) -> Held
+    requires { ⌜ Runs plan ⌝ }
 {
-    if k == 0 {
-        return wrong_entries(c, period, store, sums, y);
-    }
-    if k == 1 {
-        return withdraw_line(c, store, sums, 0);
-    }
-    if k == 2 {
-        return withdraw_line(c, store, sums, 367);
-    }
-    if k == 3 {
-        short_responses(c, period, store, sums, r, mean, room, tags);
-        return c;
-    }
-    if k == 4 {
-        short_summaries(c, period, store, sums, room, tags);
-        return c;
-    }
-    if k == 5 {
-        record_night(&mut y[..period], 365);
-        return c;
-    }
-    if k == 6 {
-        shift_sum(sums, 1);
-        return c;
-    }
-    c
+    let period = plan.period;
+    let mut next = recorded(held, period, REFUSED_VISIT);
+    next = shift_sum(next, 1);
+    next = enter_line(next, store, 1, period);
+    next = withdraw_line(next, store, 1);
+    next = answers(next, store);
+    shift_sum(next, -1)
 }
 
-// Calls with that sum, one less in it, then starts and signals.
-fn late(
-    k: usize,
-    c: Campaign,
-    plan: Campaign,
-    period: usize,
-    store: &mut [i32],
-    sums: &mut [i64],
-    y: &mut [i32],
-    r: &mut [i64],
-    mean: &mut [i32],
-    room: &mut [i64],
-    tags: &mut [u16],
-) -> Campaign
-    requires { ⌜ (2 ≤ period) × (period ≤ 511) × (0 < plan .slots) × (plan .slots ≤ 48) × (length (now store) ≡ 24600) × (length (now sums) ≡ 600) × (length (now y) ≡ 512) ⌝ }
-    requires { ⌜ (length (now r) ≡ 600) × (length (now mean) ≡ 600) × (length (now room) ≡ 600) × (length (now tags) ≡ 1100) ⌝ }
-{
-    if k == 7 {
-        return enter_line(c, store, sums, 1, &y[..period]);
-    }
-    if k == 8 {
-        return withdraw_line(c, store, sums, 1);
-    }
-    if k == 9 {
-        answers(c, store, sums, r, mean, room, tags);
-        return c;
-    }
-    if k == 10 {
-        shift_sum(sums, -1);
-        return c;
-    }
-    if k == 11 {
-        return wrong_starts(c, plan, period, plan.slots as usize * period, store, sums);
-    }
-    if k == 12 {
-        refused_signals(plan, period, y);
-        return c;
-    }
-    if k == 13 {
-        memory_line(store, sums);
-        return c;
-    }
-    c
+fn wrong_orders(held: Held, store: &mut Store, plan: Plan) -> Held {
+    let taps = plan.taps;
+    let slots = plan.capacity;
+    let next = start_line(held, store, LEAST_ORDER - 1, taps, slots, STORE, PLACES);
+    start_line(next, store, MOST_ORDER + 1, taps, slots, STORE, PLACES)
 }
 
-fn refusal(
-    k: usize,
-    c: Campaign,
-    plan: Campaign,
-    period: usize,
-    store: &mut [i32],
-    sums: &mut [i64],
-    y: &mut [i32],
-    r: &mut [i64],
-    mean: &mut [i32],
-    room: &mut [i64],
-    tags: &mut [u16],
-) -> Campaign
-    requires { ⌜ (2 ≤ period) × (period ≤ 511) × (0 < plan .slots) × (plan .slots ≤ 48) × (length (now store) ≡ 24600) × (length (now sums) ≡ 600) × (length (now y) ≡ 512) ⌝ }
-    requires { ⌜ (length (now r) ≡ 600) × (length (now mean) ≡ 600) × (length (now room) ≡ 600) × (length (now tags) ≡ 1100) ⌝ }
+// Not below 2^N, with tap 0 clear, and of a register that is not maximal.
+fn wrong_taps(held: Held, store: &mut Store, plan: Plan) -> Held
+    requires { ⌜ Runs plan ⌝ }
 {
-    if k < 7 {
-        return early(k, c, period, store, sums, y, r, mean, room, tags);
-    }
-    late(k, c, plan, period, store, sums, y, r, mean, room, tags)
+    let order = plan.order;
+    let slots = plan.capacity;
+    let beyond = plan.period as u32 + 1;
+    let mut next = start_line(held, store, order, beyond, slots, STORE, PLACES);
+    next = start_line(next, store, order, 2, slots, STORE, PLACES);
+    start_line(next, store, order, 1, slots, STORE, PLACES)
+}
+
+fn wrong_slots(held: Held, store: &mut Store, plan: Plan) -> Held {
+    let order = plan.order;
+    let taps = plan.taps;
+    let next = start_line(held, store, order, taps, 0, STORE, PLACES);
+    start_line(next, store, order, taps, MOST_SLOTS + 1, STORE, PLACES)
+}
+
+// The store one short, and the sums.
+fn short_starts(held: Held, store: &mut Store, plan: Plan) -> Held
+    requires { ⌜ Runs plan ⌝ }
+{
+    let order = plan.order;
+    let taps = plan.taps;
+    let slots = plan.capacity;
+    let period = plan.period;
+    let samples = slots as usize * period;
+    let next = start_line(held, store, order, taps, slots, samples - 1, PLACES);
+    start_line(next, store, order, taps, slots, STORE, period - 1)
+}
+
+fn wrong_starts(held: Held, store: &mut Store, plan: Plan) -> Held
+    requires { ⌜ Runs plan ⌝ }
+{
+    let mut next = wrong_orders(held, store, plan);
+    next = wrong_taps(next, store, plan);
+    next = wrong_slots(next, store, plan);
+    short_starts(next, store, plan)
 }
 
 // All of them, in this order.
-pub fn be_refused(
-    c: Campaign,
-    plan: Campaign,
-    period: usize,
-    store: &mut [i32],
-    sums: &mut [i64],
-    y: &mut [i32],
-    r: &mut [i64],
-    mean: &mut [i32],
-    room: &mut [i64],
-    tags: &mut [u16],
-) -> Campaign
-    requires { ⌜ (2 ≤ period) × (period ≤ 511) × (0 < plan .slots) × (plan .slots ≤ 48) × (length (now store) ≡ 24600) × (length (now sums) ≡ 600) × (length (now y) ≡ 512) ⌝ }
-    requires { ⌜ (length (now r) ≡ 600) × (length (now mean) ≡ 600) × (length (now room) ≡ 600) × (length (now tags) ≡ 1100) ⌝ }
+pub fn be_refused(held: Held, store: &mut Store, plan: Plan) -> Held
+    requires { ⌜ Runs plan ⌝ }
 {
-    let mut e = c;
-    let mut k = 0;
-    while k < 14 {
-        e = refusal(k, e, plan, period, store, sums, y, r, mean, room, tags);
-        k += 1;
-    }
-    e
+    let mut next = wrong_entries(held, store, plan);
+    next = wrong_withdrawals(next, store);
+    next = short_rooms(next, store, plan);
+    next = wrong_sums(next, store, plan);
+    next = wrong_starts(next, store, plan);
+    next = refused_signals(next, plan);
+    memory_line(next, store);
+    next
 }

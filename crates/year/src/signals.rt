@@ -1,12 +1,16 @@
 // A prediction that is too loud, and players that cannot step.
+use crate::HIGHEST;
+use crate::Held;
+use crate::Plan;
+use crate::RECORDING;
 use lines::print::line_end;
 use lines::print::number;
 use lines::print::word;
 use player::Player;
 use player::Tick;
 use player::clock::step_player;
-use records::Campaign;
 ghost use Prim.Native.Nat.{_≤_};
+ghost use Rattle.year.specs.Lent.{recording, Runs};
 
 fn answer_line(name: &[u8], answer: u32) {
     word(name);
@@ -15,12 +19,12 @@ fn answer_line(name: &[u8], answer: u32) {
 }
 
 fn predict_line(order: u32, taps: u32, period: usize, out: &mut [i32])
-    requires { ⌜ period ≤ 512 ⌝ }
+    requires { ⌜ period ≤ recording ⌝ }
 {
-    let mut h: [i32; 512] = [0; 512];
-    h[0] = 8388607;
-    h[1] = 8388607;
-    let answer = response::predict(order, taps, &h[..period], out);
+    let mut h: [i32; RECORDING] = [0; RECORDING];
+    h[0] = HIGHEST;
+    h[1] = HIGHEST;
+    let answer = prediction::predict(order, taps, &h[..period], out);
     answer_line(b"predict", answer);
 }
 
@@ -38,13 +42,18 @@ fn step_line(order: u32, taps: u32, window: u32) {
     }
 }
 
-// A prediction and two players of the campaign's order and taps, all refused.
-pub fn refused_signals(plan: Campaign, period: usize, y: &mut [i32])
-    requires { ⌜ period ≤ 511 ⌝ }
+// A prediction and two players of the plan's order and taps, all refused.
+pub fn refused_signals(held: Held, plan: Plan) -> Held
+    requires { ⌜ Runs plan ⌝ }
 {
     let order = plan.order;
     let taps = plan.taps;
-    predict_line(order, taps, period, y);
+    let period = plan.period;
+    let mut y = held.y;
+    predict_line(order, taps, period, &mut y);
     step_line(order, taps, 0);
     step_line(order, taps, period as u32 + 1);
+    let mut next = held;
+    next.y = y;
+    next
 }

@@ -40,6 +40,12 @@ slice-aggregate-run-9 c = search needs
 run-requires : tie.Need-run-requires
 run-requires c κs = (refl, search needs)
 
+word-for-requires : tie.Need-word-for-requires
+word-for-requires c κs = search needs
+
+tell-requires : tie.Need-tell-requires
+tell-requires c κs = search needs
+
 returns : tie.Need-returns
 returns c = search needs
 
@@ -59,4 +65,6 @@ main-spec =
     slice-aggregate-run-8
     slice-aggregate-run-9
     run-requires
+    word-for-requires
+    tell-requires
     returns)

@@ -7,7 +7,7 @@ use lib.Dec.{eqb}
 use lib.ListN.{length}
 use Rattle.sums.specs.Lists.{at}
 use Rattle.register.specs.Register.{P}
-use Rattle.response.specs.Calls.{someOut}
+use Rattle.samples.specs.Samples.{someOut}
 use Rattle.records.specs.Record.{together}
 use Rattle.campaign.specs.Calls.{dayOut}
 use Rattle.records.proofs.Holding.{holds-together}

@@ -16,29 +16,28 @@ use Rattle.records.specs.declared.Campaign.{Campaign}
 use Rattle.campaign.specs.declared.Entered.{Entered}
 use Rattle.campaign.specs.declared.Verdict.the-variants as verdict
 use Rattle.records.proofs.Loops.{days-in-is}
-use Rattle.campaign.proofs.Passing.{Enters, enters, period-small, slot-fits, sums-small}
-use Rattle.campaign.proofs.Passing.{lowest-free}
+use Rattle.campaign.proofs.Passing.{Enters, enters, period-small, slot-fits, sums-small, lowest-free}
 use Rattle.campaign.proofs.entering.keep.Statement.{statement}
 use Rattle.campaign.proofs.entering.keep.Tie as tie
 
 module _ (c : Campaign) (store sums : List ℤ) (d : ℕ) (y : List ℤ) where
-  full : daysIn c standing ≡ c .slots → {r : Entered} → r ≡ entered c d (verdict.Refused 12) → (r, store, sums) ≡ stayedOutcome c store sums d y
+  full : daysIn c standing ≡ c .capacity → {r : Entered} → r ≡ entered c d (verdict.Refused 12) → (r, store, sums) ≡ stayedOutcome c store sums d y
   full e p =
       ap (λ r. (r, store, sums)) p
-      ∙ sym (ap (λ b. outcome ((12, b) ∷ []) (λ n. (entered c d (verdict.Refused n), store, sums)) (keptOutcome c store sums d y)) (eq-eqb (daysIn c standing) (c .slots) e))
+      ∙ sym (ap (λ b. outcome ((12, b) ∷ []) (λ n. (entered c d (verdict.Refused n), store, sums)) (keptOutcome c store sums d y)) (eq-eqb (daysIn c standing) (c .capacity) e))
 
-  kept : (daysIn c standing ≡ c .slots → ⊥) → (k n : ℕ) → k ≡ lowestFree c → n ≡ P (c .order) → {r : Entered} {s u : List ℤ}
+  kept : (daysIn c standing ≡ c .capacity → ⊥) → (k n : ℕ) → k ≡ lowestFree c → n ≡ P (c .order) → {r : Entered} {s u : List ℤ}
       → r ≡ entered (filed c d standing k d) d (verdict.Kept k) → s ≡ putAt (k * n) y store → u ≡ put (table n (λ j. at sums j +ℤ at y j)) sums
       → (r, s, u) ≡ stayedOutcome c store sums d y
   kept e k n f g p q t =
       rw (p, q, t, f, g)
-      (sym (ap (λ b. outcome ((12, b) ∷ []) (λ n. (entered c d (verdict.Refused n), store, sums)) (keptOutcome c store sums d y)) (ne-eqb (daysIn c standing) (c .slots) e)))
+      (sym (ap (λ b. outcome ((12, b) ∷ []) (λ n. (entered c d (verdict.Refused n), store, sums)) (keptOutcome c store sums d y)) (ne-eqb (daysIn c standing) (c .capacity) e)))
 
 ready : (c : tie.Start) → let a = c .args in Enters (a .c) (a .store .now) (a .sums .now) (a .d) (a .y .now)
 ready c = let a = c .args in enters (a .c) (a .store .now) (a .sums .now) (a .d) (a .y .now) (c .pre)
 
-cast-slots : tie.Need-cast-slots
-cast-slots c = search needs
+cast-capacity : tie.Need-cast-capacity
+cast-capacity c = search needs
 
 slice-aggregate-days-in : tie.Need-slice-aggregate-days-in
 slice-aggregate-days-in c = search needs
@@ -60,7 +59,7 @@ returns c =
     let a = c .before .before .before .before .before .before .args in
     full (a .c) (a .store .now) (a .sums .now) (a .d) (a .y .now) (sym (standing-are (c .before .before)) ∙ c .before .if1 .taken) (c .entered .ensures)
 
-few : (c : tie.Else1) → let r = c .before .before .before .before .before .args .c in daysIn r standing ≡ r .slots → ⊥
+few : (c : tie.Else1) → let r = c .before .before .before .before .before .args .c in daysIn r standing ≡ r .capacity → ⊥
 few c e = c .if1 .left (standing-are (c .before) ∙ e)
 
 slice-aggregate-find : tie.Need-slice-aggregate-find
@@ -69,7 +68,7 @@ slice-aggregate-find c = search needs
 find-requires : tie.Need-find-requires
 find-requires c κs = (search needs, ready (c .before .before .before .before .before .before .before) .whole .filed .most)
 
-slot-inside : (c : tie.After-find) → c .find .result < c .before .before .before .before .before .before .before .before .args .c .slots
+slot-inside : (c : tie.After-find) → c .find .result < c .before .before .before .before .before .before .before .before .args .c .capacity
 slot-inside c = rw (c .find .ensures) (lowest-free _ (ready (c .before .before .before .before .before .before .before .before) .whole .filed) (few (c .before .before .before)) .0)
 
 fill-slot-requires : tie.Need-fill-slot-requires
@@ -109,7 +108,7 @@ pub keep-spec : {M : Type 1} → statement M
 keep-spec =
     tie.close
     (tie.spec
-    cast-slots
+    cast-capacity
     slice-aggregate-days-in
     days-in-requires
     cast-if1

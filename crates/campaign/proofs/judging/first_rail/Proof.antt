@@ -10,9 +10,10 @@ use lib.ListN.{length}
 use mir.Syntax.{w32}
 use Rattle.sums.specs.Lists.{at}
 use Rattle.sums.proofs.Bound.{read}
-use Rattle.campaign.specs.Calls.{rail, railPlace, railOf}
+use Rattle.samples.specs.Samples.{rail}
+use Rattle.campaign.specs.Calls.{railPlace, railOf}
 use Rattle.campaign.specs.declared.Rail.the-variants as scan
-use Rattle.records.proofs.Loops.{Ahead, ahead-none, ahead-more, ahead-here, ahead-end}
+use Rattle.sums.proofs.Seek.{Ahead, ahead-none, ahead-more, ahead-here, ahead-end}
 use Rattle.campaign.proofs.judging.first_rail.Statement.{statement}
 use Rattle.campaign.proofs.judging.first_rail.Tie as tie
 

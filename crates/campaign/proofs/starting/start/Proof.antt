@@ -10,7 +10,7 @@ use Rattle.sums.specs.Refusals.{first}
 use Rattle.sums.proofs.First.{refused-with, accepted-with}
 use Rattle.register.specs.Register.{P}
 use Rattle.register.proofs.Word.{small}
-use Rattle.response.specs.Calls.{clearedWide}
+use Rattle.samples.specs.Samples.{clearedWide}
 use Rattle.records.specs.Record.{fresh}
 use Rattle.campaign.specs.Calls.{startChecks, startOutcome}
 use Rattle.records.specs.declared.Campaign.{Campaign}
@@ -33,13 +33,13 @@ start-refusal-requires : tie.Need-start-refusal-requires
 start-refusal-requires c κs = search needs
 
 returns : tie.Need-returns
-returns c = let a = c .before .before .args in refused (a .c) (a .order) (a .taps) (a .slots) (a .store .now) (a .sums .now) _ (c .before .start-refusal .ensures) (c .if1 .taken)
+returns c = let a = c .before .before .args in refused (a .c) (a .order) (a .taps) (a .capacity) (a .store .now) (a .sums .now) _ (c .before .start-refusal .ensures) (c .if1 .taken)
 
 -- past the checks
-ready : (c : tie.Else1) → let a = c .before .before .args in Begins (a .order) (a .taps) (a .slots) (a .store .now) (a .sums .now)
+ready : (c : tie.Else1) → let a = c .before .before .args in Begins (a .order) (a .taps) (a .capacity) (a .store .now) (a .sums .now)
 ready c =
     let a = c .before .before .args in
-    begins (a .order) (a .taps) (a .slots) (a .store .now) (a .sums .now) (sym (c .before .start-refusal .ensures) ∙ c .if1 .left)
+    begins (a .order) (a .taps) (a .capacity) (a .store .now) (a .sums .now) (sym (c .before .start-refusal .ensures) ∙ c .if1 .left)
 
 full-period-requires : tie.Need-full-period-requires
 full-period-requires c κs = ready c .accepted .shaped .most
@@ -56,7 +56,7 @@ mul-clear-samples c = omega (arith, mul-le-mul (ready (c .before .before) .most)
 clear-samples-requires : tie.Need-clear-samples-requires
 clear-samples-requires c κs =
     let a = c .before .before .before .before .args in
-    omega (arith, ready (c .before .before) .store-long, ap (λ n. a .slots * n) (c .before .full-period .ensures))
+    omega (arith, ready (c .before .before) .store-long, ap (λ n. a .capacity * n) (c .before .full-period .ensures))
 
 clear-wide-requires : tie.Need-clear-wide-requires
 clear-wide-requires c κs = omega (arith, c .before .before .before .before .full-period .ensures, ready (c .before .before .before .before .before) .sums-long)
@@ -75,9 +75,9 @@ returns-2 c =
     let f = c .before .before .before .before .before .before .before in
     let a = f .before .before .before .args in
     let e = f .full-period .ensures in
-    accepted (a .c) (a .order) (a .taps) (a .slots) (a .store .now) (a .sums .now) _ (f .before .before .start-refusal .ensures) (f .before .if1 .left)
+    accepted (a .c) (a .order) (a .taps) (a .capacity) (a .store .now) (a .sums .now) _ (f .before .before .start-refusal .ensures) (f .before .if1 .left)
     (c .blank .ensures)
-    (c .before .before .before .before .before .clear-samples .ensures ∙ ap (λ n. clearedWide (a .slots * n) (a .store .now)) e)
+    (c .before .before .before .before .before .clear-samples .ensures ∙ ap (λ n. clearedWide (a .capacity * n) (a .store .now)) e)
     (c .before .before .clear-wide .ensures ∙ ap (λ n. clearedWide n (a .sums .now)) e)
 
 pub start-spec : {M : Type 1} → statement M

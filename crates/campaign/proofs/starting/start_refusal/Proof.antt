@@ -36,7 +36,7 @@ unfolding tapsAnswer
 returns c =
     let e = c .before .check-taps .ensures in
     let a = c .before .before .args in
-    e ∙ sym (refused-first (tapsChecks (a .order) (a .taps)) (rest (a .order) (a .slots) (a .store) (a .sums)) (λ z. c .if1 .taken (e ∙ z)))
+    e ∙ sym (refused-first (tapsChecks (a .order) (a .taps)) (rest (a .order) (a .capacity) (a .store) (a .sums)) (λ z. c .if1 .taken (e ∙ z)))
 
 -- past the taps check
 passed : (c : tie.Else1) → let a = c .before .before .args in tapsAnswer (a .order) (a .taps) ≡ 0
@@ -49,14 +49,14 @@ outside-requires : tie.Need-outside-requires
 outside-requires c κs = search needs
 
 returns-2 : tie.Need-returns-2
-returns-2 c = let a = c .before .before .before .before .args in says (a .order) (a .taps) (a .slots) (a .store) (a .sums) (passed (c .before .before)) (sym (c .if2 .taken) ∙ c .before .outside .ensures) refl
+returns-2 c = let a = c .before .before .before .before .args in says (a .order) (a .taps) (a .capacity) (a .store) (a .sums) (passed (c .before .before)) (sym (c .if2 .taken) ∙ c .before .outside .ensures) refl
 
 -- past the second test
-within : (c : tie.Else2) → false ≡ slotsOut (c .before .before .before .before .args .slots)
+within : (c : tie.Else2) → false ≡ slotsOut (c .before .before .before .before .args .capacity)
 within c = sym (c .if2 .left) ∙ c .before .outside .ensures
 
-few : (c : tie.Else2) → c .before .before .before .before .args .slots ≤ 64
-few c = let C = c .before .before .before .before .args .slots in ltb-false 64 C (or-false (ltb C 1) (ltb 64 C) (sym (within c)) .1)
+few : (c : tie.Else2) → c .before .before .before .before .args .capacity ≤ 64
+few c = let C = c .before .before .before .before .args .capacity in ltb-false 64 C (or-false (ltb C 1) (ltb 64 C) (sym (within c)) .1)
 
 full-period-requires : tie.Need-full-period-requires
 full-period-requires c κs = accepted (c .before .before) .shaped .most
@@ -69,14 +69,14 @@ memory-short-requires c κs =
     (few (c .before), omega (arith, c .full-period .ensures, small (accepted (c .before .before .before) .shaped .most)))
 
 short : (c : tie.After-memory-short) → let a = c .before .before .before .before .before .before .args in
-    c .memory-short .result ≡ ltb (a .store) (a .slots * P (a .order)) || ltb (a .sums) (P (a .order))
+    c .memory-short .result ≡ ltb (a .store) (a .capacity * P (a .order)) || ltb (a .sums) (P (a .order))
 short c = rw (c .before .full-period .ensures) at (c .memory-short .ensures)
 
 returns-3 : tie.Need-returns-3
-returns-3 c = let a = c .before .before .before .before .before .before .before .args in says (a .order) (a .taps) (a .slots) (a .store) (a .sums) (passed (c .before .before .before .before .before)) (within (c .before .before .before)) (sym (c .if3 .taken) ∙ short (c .before))
+returns-3 c = let a = c .before .before .before .before .before .before .before .args in says (a .order) (a .taps) (a .capacity) (a .store) (a .sums) (passed (c .before .before .before .before .before)) (within (c .before .before .before)) (sym (c .if3 .taken) ∙ short (c .before))
 
 returns-4 : tie.Need-returns-4
-returns-4 c = let a = c .before .before .before .before .before .before .before .args in says (a .order) (a .taps) (a .slots) (a .store) (a .sums) (passed (c .before .before .before .before .before)) (within (c .before .before .before)) (sym (c .if3 .left) ∙ short (c .before))
+returns-4 c = let a = c .before .before .before .before .before .before .before .args in says (a .order) (a .taps) (a .capacity) (a .store) (a .sums) (passed (c .before .before .before .before .before)) (within (c .before .before .before)) (sym (c .if3 .left) ∙ short (c .before))
 
 pub start-refusal-spec : {M : Type 1} → statement M
 start-refusal-spec =

@@ -46,8 +46,8 @@ ready c =
     let a = c .before .before .before .before .args in
     withdraws (a .c) (a .store .now) (a .sums .now) (a .d) (sym (c .before .withdraw-refusal .ensures) ∙ c .if1 .left)
 
-cast-slots : tie.Need-cast-slots
-cast-slots c = search needs
+cast-capacity : tie.Need-cast-capacity
+cast-capacity c = search needs
 
 slice-aggregate-find : tie.Need-slice-aggregate-find
 slice-aggregate-find c = search needs
@@ -58,7 +58,7 @@ cast-find c = record { fits = omega (arith, ready (c .before .before .before) .d
 find-requires : tie.Need-find-requires
 find-requires c κs = (search needs, ready (c .before .before .before) .whole .filed .most)
 
-slot-inside : (c : tie.After-find) → c .find .result < c .before .before .before .before .before .before .before .before .args .c .slots
+slot-inside : (c : tie.After-find) → c .find .result < c .before .before .before .before .before .before .before .before .args .c .capacity
 slot-inside c = rw (c .find .ensures) (ready (c .before .before .before .before) .inside)
 
 full-period-requires : tie.Need-full-period-requires
@@ -103,7 +103,7 @@ withdraw-spec =
     same-length
     same-length-2
     returns
-    cast-slots
+    cast-capacity
     slice-aggregate-find
     cast-find
     find-requires

@@ -5,7 +5,8 @@ use Prim.Native.Nat.{_+_}
 use Rattle.log.specs.declared.Found.the-variants as found
 use borrow.Author.Needs.{needs}
 use borrow.Author.Tests.{eq-eqb, not-true, not-false}
-use Rattle.log.specs.Log.{mayStand, byteAt, decoded}
+use Rattle.log.specs.Phases.{mayStand}
+use Rattle.log.specs.Log.{byteAt, decoded}
 use Rattle.log.proofs.Standing.{barred, short, whole}
 use Rattle.log.proofs.decoding.decode.Statement.{statement}
 use Rattle.log.proofs.decoding.decode.Tie as tie
@@ -26,7 +27,8 @@ may-stand-requires c κs = search needs
 returns-2 : tie.Need-returns-2
 returns-2 c =
     let a = c .before .before .before .before .before .args in
-    barred (a .phase) (a .period) (a .bytes .now) (a .ended) (c .before .before .before .if1 .left) (sym (c .before .may-stand .ensures) ∙ not-true (c .before .may-stand .result) (c .if2 .taken))
+    barred (a .phase) (a .period) (a .bytes .now) (a .ended) (c .before .before .before .if1 .left)
+    (sym (c .before .may-stand .ensures) ∙ not-true (c .before .may-stand .result) (c .if2 .taken))
 
 -- past the test of the kind
 stands : (c : tie.Else2) → let a = c .before .before .before .before .before .args in mayStand (a .phase) (a .period) (byteAt (a .bytes .now) 0) ≡ true

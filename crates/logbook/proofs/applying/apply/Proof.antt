@@ -1,52 +1,62 @@
--- `logbook::applying::apply` meets its contract: each return rewrites with the record. Assumes nothing.
-use mathlib.Core.Path.{_≡_, ap}
+-- `logbook::applying::apply` meets its contract: each return rewrites with the item. Assumes nothing.
+use mathlib.Core.Path.{_≡_, ap, _∙_}
 use mathlib.Core.List.{List}
 use Prim.Native.Nat.{ℕ}
 use borrow.Author.Needs.{needs}
 use lib.IntN.{ℤ}
 use mir.Syntax.{w32}
 use mir.ValLaws.{toZ-ofZ}
-use Rattle.logbook.specs.Book.{said, beganOutcome, tookSample, closedOutcome, withdrewOutcome, askedOutcome, memory, filing, sampling, asking, applied}
+use Rattle.logbook.specs.Book.{said, beganOutcome, tookSample, closedOutcome, withdrewOutcome, askedOutcome}
+use Rattle.logbook.specs.Book.{Memory, memory, filing, sampling, asking, applied}
 use Rattle.logbook.specs.declared.Applied.{Applied}
 use Rattle.logbook.specs.declared.Book.{Book}
+use Rattle.log.specs.Phases.{afterOpen}
 use Rattle.log.specs.declared.Phase.{Phase}
-use Rattle.log.specs.declared.Phase.the-variants as phase
 use Rattle.log.specs.declared.Item.{Item}
 use Rattle.log.specs.declared.Item.the-variants as item
 use Rattle.report.specs.declared.Line.the-variants as line
 use Rattle.logbook.proofs.applying.apply.Statement.{statement}
 use Rattle.logbook.proofs.applying.apply.Tie as tie
 
-module _ (b : Book) (store sums y r mean room : List ℤ) (tags : List ℕ) {i : Item} where
-  began : {N taps C : ℕ} → i ≡ item.Start N taps C → {x : Applied} {st su : List ℤ} → (x, st, su) ≡ beganOutcome (b .campaign) N taps C store sums
-      → (x, memory st su y r mean room tags) ≡ applied b i (memory store sums y r mean room tags)
-  unfolding applied
-  began e o = rw e (ap (filing (memory store sums y r mean room tags)) o)
+-- what is lent at entry
+abbrev lent : tie.Start → Memory
+lent s =
+    let a = s .args in
+    memory (a .store .now) (a .sums .now) (a .recording .now) (a .r .now) (a .mean .now) (a .room .now) (a .tags .now)
 
-  opened : {d : ℕ} → i ≡ item.Open d → {x : Applied} → x ≡ said (phase.Open d 0) (b .campaign) line.Silent
-      → (x, memory store sums y r mean room tags) ≡ applied b i (memory store sums y r mean room tags)
-  unfolding applied
-  opened e q = rw (e, q)
+-- a call that leaves the store and the sums changed
+filed : (m : Memory) {y : Applied × Memory} {x : Applied} {st su : List ℤ} {o : Applied × List ℤ × List ℤ} → filing m o ≡ y → (x, st, su) ≡ o
+    → (x, memory st su (m .recording) (m .r) (m .mean) (m .room) (m .tags)) ≡ y
+filed m q o = ap (filing m) o ∙ q
 
-  sampled : {v : ℤ} → i ≡ item.Sample v → {x : Applied} {p : Phase} {z : List ℤ} → x ≡ said p (b .campaign) line.Silent → (p, z) ≡ tookSample (b .phase) v y
-      → (x, memory store sums z r mean room tags) ≡ applied b i (memory store sums y r mean room tags)
+module _ (b : Book) (m : Memory) {i : Item} where
+  began : {N taps C : ℕ} → i ≡ item.Start N taps C → filing m (beganOutcome (b .campaign) N taps C (m .store) (m .sums)) ≡ applied b i m
   unfolding applied
-  sampled e q o = rw (e, q) (ap (sampling (memory store sums y r mean room tags) (b .campaign)) o)
+  began e = rw e
 
-  closed : i ≡ item.Enter → {x : Applied} {st su : List ℤ} → (x, st, su) ≡ closedOutcome (b .phase) (b .campaign) store sums y
-      → (x, memory st su y r mean room tags) ≡ applied b i (memory store sums y r mean room tags)
+  opened : {d : ℕ} → i ≡ item.Open d → {x : Applied} {p : Phase} → x ≡ said p (b .campaign) line.Silent → p ≡ afterOpen d → (x, m) ≡ applied b i m
   unfolding applied
-  closed e o = rw e (ap (filing (memory store sums y r mean room tags)) o)
+  opened e q o = rw (e, q, o)
 
-  withdrew : {d : ℕ} → i ≡ item.Withdraw d → {x : Applied} {st su : List ℤ} → (x, st, su) ≡ withdrewOutcome (b .phase) (b .campaign) d store sums
-      → (x, memory st su y r mean room tags) ≡ applied b i (memory store sums y r mean room tags)
+  sampled : {v : ℤ} → i ≡ item.Sample v → {x : Applied} {p : Phase} {z : List ℤ} → x ≡ said p (b .campaign) line.Silent
+      → (p, z) ≡ tookSample (b .phase) v (m .recording)
+      → (x, memory (m .store) (m .sums) z (m .r) (m .mean) (m .room) (m .tags)) ≡ applied b i m
   unfolding applied
-  withdrew e o = rw e (ap (filing (memory store sums y r mean room tags)) o)
+  sampled e q o = rw (e, q) (ap (sampling m (b .campaign)) o)
 
-  asked : i ≡ item.Ask → {x : Applied} {r′ mean′ room′ : List ℤ} {tags′ : List ℕ} → (x, r′, mean′, room′, tags′) ≡ askedOutcome b store sums r mean room tags
-      → (x, memory store sums y r′ mean′ room′ tags′) ≡ applied b i (memory store sums y r mean room tags)
+  closed : i ≡ item.Enter → filing m (closedOutcome (b .phase) (b .campaign) (m .store) (m .sums) (m .recording)) ≡ applied b i m
   unfolding applied
-  asked e o = rw e (ap (asking (memory store sums y r mean room tags)) o)
+  closed e = rw e
+
+  withdrew : {d : ℕ} → i ≡ item.Withdraw d → filing m (withdrewOutcome (b .phase) (b .campaign) d (m .store) (m .sums)) ≡ applied b i m
+  unfolding applied
+  withdrew e = rw e
+
+  asked : i ≡ item.Ask → {x : Applied} {r mean room : List ℤ} {tags : List ℕ}
+      → (x, r, mean, room, tags) ≡ askedOutcome b (m .store) (m .sums) (m .r) (m .mean) (m .room) (m .tags)
+      → (x, memory (m .store) (m .sums) (m .recording) r mean room tags) ≡ applied b i m
+  unfolding applied
+  asked e o = rw e (ap (asking m) o)
 
 enum-known-item : tie.Need-enum-known-item
 enum-known-item c = search needs
@@ -56,6 +66,9 @@ begin-requires c κs = search needs
 
 enum-known-item-2 : tie.Need-enum-known-item-2
 enum-known-item-2 c = search needs
+
+after-open-requires : tie.Need-after-open-requires
+after-open-requires c κs = search needs
 
 say-requires : tie.Need-say-requires
 say-requires c κs = search needs
@@ -95,22 +108,27 @@ same-length-2 c = search needs
 
 returns : tie.Need-returns
 returns c =
-    let a = c .before .before .before .before .before .before .before .before .before .before .args in
-    began (a .book) (a .store .now) (a .sums .now) (a .recording .now) (a .r .now) (a .mean .now) (a .room .now) (a .tags .now) (c .before .before .before .before .before .before .item .given .1) (c .before .before .begin .ensures)
+    let e = c .before .before in
+    let t = e .before .before .before .before in
+    let s = t .before .before .before .before in
+    filed (lent s) (began (s .args .book) (lent s) (t .item .given .1)) (e .begin .ensures)
 
 returns-2 : tie.Need-returns-2
 returns-2 c =
-    let a = c .before .before .before .before .before .before .args in
-    opened (a .book) (a .store .now) (a .sums .now) (a .recording .now) (a .r .now) (a .mean .now) (a .room .now) (a .tags .now) (c .before .before .item2 .given .1) (c .say .ensures)
+    let t = c .before .before .before in
+    let s = t .before .before .before .before in
+    opened (s .args .book) (lent s) (t .item2 .given .1) (c .say .ensures) (c .before .after-open .ensures)
 
 same-length-3 : tie.Need-same-length-3
 same-length-3 c = search needs
 
 returns-3 : tie.Need-returns-3
 returns-3 c =
-    let a = c .before .before .before .before .before .before .before .before .before .args in
-    sampled (a .book) (a .store .now) (a .sums .now) (a .recording .now) (a .r .now) (a .mean .now) (a .room .now) (a .tags .now) (c .before .before .before .before .before .item3 .given .1) (c .say2 .ensures)
-    (rw (toZ-ofZ w32 _ (record { sfits = c .before .before .before .before .known-told3 .given .0 .1 })) at (c .before .before .take-sample .ensures))
+    let e = c .before .before in
+    let k = e .before .before in
+    let s = k .before .before .before .before .before in
+    sampled (s .args .book) (lent s) (k .before .item3 .given .1) (c .say2 .ensures)
+    (rw (toZ-ofZ w32 _ (record { sfits = k .known-told3 .given .0 .1 })) at (e .take-sample .ensures))
 
 same-length-4 : tie.Need-same-length-4
 same-length-4 c = search needs
@@ -123,8 +141,10 @@ same-length-6 c = search needs
 
 returns-4 : tie.Need-returns-4
 returns-4 c =
-    let a = c .before .before .before .before .before .before .before .before .before .before .args in
-    closed (a .book) (a .store .now) (a .sums .now) (a .recording .now) (a .r .now) (a .mean .now) (a .room .now) (a .tags .now) (c .before .before .before .before .before .before .enum-told .given .1) (c .before .before .close .ensures)
+    let e = c .before .before in
+    let t = e .before .before .before .before in
+    let s = t .before .before .before .before in
+    filed (lent s) (closed (s .args .book) (lent s) (t .enum-told .given .1)) (e .close .ensures)
 
 same-length-7 : tie.Need-same-length-7
 same-length-7 c = search needs
@@ -134,8 +154,10 @@ same-length-8 c = search needs
 
 returns-5 : tie.Need-returns-5
 returns-5 c =
-    let a = c .before .before .before .before .before .before .before .before .before .before .args in
-    withdrew (a .book) (a .store .now) (a .sums .now) (a .recording .now) (a .r .now) (a .mean .now) (a .room .now) (a .tags .now) (c .before .before .before .before .before .before .item4 .given .1) (c .before .before .withdraw-day .ensures)
+    let e = c .before .before in
+    let t = e .before .before .before .before in
+    let s = t .before .before .before .before in
+    filed (lent s) (withdrew (s .args .book) (lent s) (t .item4 .given .1)) (e .withdraw-day .ensures)
 
 same-length-9 : tie.Need-same-length-9
 same-length-9 c = search needs
@@ -157,8 +179,10 @@ same-length-14 c = search needs
 
 returns-6 : tie.Need-returns-6
 returns-6 c =
-    let a = c .before .before .before .before .before .before .before .before .before .before .before .before .before .before .before .before .args in
-    asked (a .book) (a .store .now) (a .sums .now) (a .recording .now) (a .r .now) (a .mean .now) (a .room .now) (a .tags .now) (c .before .before .before .before .before .before .before .before .before .before .before .before .enum-told2 .given .1) (c .before .before .before .before .before .ask .ensures)
+    let e = c .before .before .before .before .before in
+    let t = e .before .before .before .before .before .before .before in
+    let s = t .before .before .before .before in
+    asked (s .args .book) (lent s) (t .enum-told2 .given .1) (e .ask .ensures)
 
 pub apply-spec : {M : Type 1} → statement M
 apply-spec =
@@ -167,6 +191,7 @@ apply-spec =
     enum-known-item
     begin-requires
     enum-known-item-2
+    after-open-requires
     say-requires
     enum-known-item-3
     take-sample-requires

@@ -23,7 +23,8 @@ module _ (b : Book) (store sums r mean room : List ℤ) (tags : List ℕ) {n : �
       (askedOutcome b store sums r mean room tags)
   lines k h = rw (f, h) (ap (asks b (countsOutcome (b .campaign) store sums)) e)
 
-  refused : (n ≡ 0 → ⊥) → _≡_ {A = Applied × List ℤ × List ℤ × List ℤ × List ℕ} (record { book = b; line = line.Answered n t; rows = 0 }, r′, mean′, room′, tags′)
+  refused : (n ≡ 0 → ⊥)
+      → _≡_ {A = Applied × List ℤ × List ℤ × List ℤ × List ℕ} (record { book = b; line = line.Answered n t; rows = 0 }, r′, mean′, room′, tags′)
       (askedOutcome b store sums r mean room tags)
   refused h = lines 0 (sym (answered-refused (λ _. 0) (dayLength (b .campaign .order)) n h))
 

@@ -15,7 +15,8 @@ use Rattle.logbook.proofs.applying.begin.Statement.{statement}
 use Rattle.logbook.proofs.applying.begin.Tie as tie
 
 module _ (c : Campaign) (N taps C : ℕ) (store sums : List ℤ) (n : ℕ) (e : n ≡ first (logStartChecks N taps C)) where
-  refused : (n ≡ 0 → ⊥) → {x : Applied} → x ≡ startedBy (record { answer = n; campaign = c }) → (x, store, sums) ≡ beganOutcome c N taps C store sums
+  refused : (n ≡ 0 → ⊥) → {x : Applied} → x ≡ startedBy (record { answer = n; campaign = c })
+      → (x, store, sums) ≡ beganOutcome c N taps C store sums
   unfolding beganOutcome
   refused h q = rw q (sym (refused-with _ _ (logStartChecks N taps C) n e h))
 
@@ -32,8 +33,9 @@ started-by-requires c κs = search needs
 
 returns : tie.Need-returns
 returns c =
-    let a = c .before .before .before .args in
-    refused (a .c) (a .order) (a .taps) (a .slots) (a .store .now) (a .sums .now) _ (c .before .before .start-refusal .ensures) (c .before .if1 .taken) (c .started-by .ensures)
+    let t = c .before in
+    let a = t .before .before .args in
+    refused (a .c) (a .order) (a .taps) (a .slots) (a .store .now) (a .sums .now) _ (t .before .start-refusal .ensures) (t .if1 .taken) (c .started-by .ensures)
 
 start-requires : tie.Need-start-requires
 start-requires c κs = search needs
@@ -49,9 +51,11 @@ same-length-2 c = search needs
 
 returns-2 : tie.Need-returns-2
 returns-2 c =
-    let a = c .before .before .before .before .before .before .before .before .args in
-    accepted (a .c) (a .order) (a .taps) (a .slots) (a .store .now) (a .sums .now) _ (c .before .before .before .before .before .before .before .start-refusal .ensures) (c .before .before .before .before .before .before .if1 .left)
-    (c .started-by2 .ensures) (c .before .before .before .start .ensures)
+    let o = c .before .before .before in
+    let t = o .before .before .before in
+    let a = t .before .before .args in
+    accepted (a .c) (a .order) (a .taps) (a .slots) (a .store .now) (a .sums .now) _ (t .before .start-refusal .ensures) (t .if1 .left)
+    (c .started-by2 .ensures) (o .start .ensures)
 
 pub begin-spec : {M : Type 1} → statement M
 begin-spec =

@@ -1,7 +1,7 @@
 -- `logbook::applying::start_refusal` meets its contract: each return rewrites with the tests that led there. Assumes nothing.
 use mathlib.Core.Path.{_≡_, refl, sym, _∙_}
 use mathlib.Core.Bool.{Bool}
-use mathlib.Core.List.{[], _∷_}
+use mathlib.Core.List.{List, [], _∷_}
 use Prim.Native.Nat.{ℕ}
 use borrow.Author.Needs.{needs}
 use Rattle.sums.specs.Refusals.{first}
@@ -27,7 +27,8 @@ unfolding tapsAnswer
 returns c =
     let e = c .before .check-taps .ensures in
     let a = c .before .before .args in
-    e ∙ sym (refused-first (tapsChecks (a .order) (a .taps)) ((9, slotsOut (a .slots)) ∷ (17, tooLarge (a .order) (a .slots)) ∷ []) (λ z. c .if1 .taken (e ∙ z)))
+    let later : List (ℕ × Bool) = (9, slotsOut (a .slots)) ∷ (17, tooLarge (a .order) (a .slots)) ∷ [] in
+    e ∙ sym (refused-first (tapsChecks (a .order) (a .taps)) later (λ z. c .if1 .taken (e ∙ z)))
 
 -- past the taps check
 passed : (c : tie.Else1) → let a = c .before .before .args in tapsAnswer (a .order) (a .taps) ≡ 0
@@ -48,13 +49,15 @@ returns-3 : tie.Need-returns-3
 returns-3 c =
     let b = c .before .before .before in
     let a = b .before .before .before .args in
-    says (a .order) (a .taps) (a .slots) (passed (b .before)) (sym (c .before .before .if2 .left) ∙ b .outside .ensures) (sym (c .if3 .taken) ∙ c .before .too-large .ensures)
+    says (a .order) (a .taps) (a .slots) (passed (b .before)) (sym (c .before .before .if2 .left) ∙ b .outside .ensures)
+    (sym (c .if3 .taken) ∙ c .before .too-large .ensures)
 
 returns-4 : tie.Need-returns-4
 returns-4 c =
     let b = c .before .before .before in
     let a = b .before .before .before .args in
-    says (a .order) (a .taps) (a .slots) (passed (b .before)) (sym (c .before .before .if2 .left) ∙ b .outside .ensures) (sym (c .if3 .left) ∙ c .before .too-large .ensures)
+    says (a .order) (a .taps) (a .slots) (passed (b .before)) (sym (c .before .before .if2 .left) ∙ b .outside .ensures)
+    (sym (c .if3 .left) ∙ c .before .too-large .ensures)
 
 pub start-refusal-spec : {M : Type 1} → statement M
 start-refusal-spec =

@@ -1,53 +1,48 @@
--- `logbook::applying::take_sample` meets its contract: each return rewrites with the phase. Assumes nothing.
+-- `logbook::applying::take_sample` meets its contract: it rewrites with the open day and the test that led there, or no day is open. Assumes nothing.
 use borrow.Author.Needs.{needs}
+use borrow.Author.Tests.{lt-ltb, le-ltb}
 use mir.Syntax.{w32}
 use mir.ValLaws.{toZ-ofZ}
+use Rattle.logbook.proofs.Shut.{no-sample}
 use Rattle.logbook.proofs.applying.take_sample.Statement.{statement}
 use Rattle.logbook.proofs.applying.take_sample.Tie as tie
-
-enum-told : tie.Need-enum-told
-enum-told c = search needs
-
-enum-told-2 : tie.Need-enum-told-2
-enum-told-2 c = search needs
 
 enum-known-phase : tie.Need-enum-known-phase
 enum-known-phase c = search needs
 
-put-sample-requires : tie.Need-put-sample-requires
-put-sample-requires c κs = search needs
+mul-v : tie.Need-mul-v
+mul-v c = search needs
 
-enum-told-3 : tie.Need-enum-told-3
-enum-told-3 c = search needs
+slice-set-from-v : tie.Need-slice-set-from-v
+slice-set-from-v c = search needs
 
-returns : tie.Need-returns
-returns c = rw (c .enum-told .given .1)
-
-returns-2 : tie.Need-returns-2
-returns-2 c = rw (c .enum-told2 .given .1)
+after-sample-requires : tie.Need-after-sample-requires
+after-sample-requires c κs = search needs
 
 same-length : tie.Need-same-length
 same-length c = search needs
 
-returns-3 : tie.Need-returns-3
-returns-3 c =
-    let b = c .before .before .before .before in
-    rw (b .phase .given .1) (rw (toZ-ofZ w32 (b .before .before .args .v) (b .before .before .fits .v)) at (c .before .put-sample .ensures))
+returns : tie.Need-returns
+returns c =
+    let b = c .before .before .before in
+    let s = b .before .before in
+    rw (b .phase .given .1) (simp (c .after-sample .ensures, lt-ltb _ _ (c .before .if1 .taken), toZ-ofZ w32 (s .args .v) (s .fits .v)))
 
-returns-4 : tie.Need-returns-4
-returns-4 c = rw (c .enum-told3 .given .1)
+returns-2 : tie.Need-returns-2
+returns-2 c = rw (c .before .before .phase .given .1) (simp (le-ltb _ _ (c .if1 .left)))
+
+returns-3 : tie.Need-returns-3
+returns-3 c = no-sample (c .before .args .phase) (c .before .args .v) (c .before .args .recording .now) (c .match .keys2)
 
 pub take-sample-spec : {M : Type 1} → statement M
 take-sample-spec =
     tie.close
     (tie.spec
-    enum-told
-    enum-told-2
     enum-known-phase
-    put-sample-requires
-    enum-told-3
+    mul-v
+    slice-set-from-v
+    after-sample-requires
+    same-length
     returns
     returns-2
-    same-length
-    returns-3
-    returns-4)
+    returns-3)

@@ -15,7 +15,9 @@ use Rattle.logprogram.proofs.turning.take_turn.Tie as tie
 
 -- the place at entry, and what stands there
 abbrev place : tie.Start → Place
-place c = let a = c .args in placeOf (a .mark) (memory (a .store .now) (a .sums .now) (a .recording .now) (a .r .now) (a .mean .now) (a .room .now) (a .tags .now))
+place c =
+    let a = c .args in
+    placeOf (a .mark) (memory (a .store .now) (a .sums .now) (a .recording .now) (a .r .now) (a .mean .now) (a .room .now) (a .tags .now))
 
 module _ (c : tie.After-decode) where
   abbrev start : tie.Start
@@ -38,12 +40,13 @@ decode-requires c κs = search needs
 enum-known-found : tie.Need-enum-known-found
 enum-known-found c = search needs
 
-take-record-requires : tie.Need-take-record-requires
-take-record-requires c κs =
+take-item-requires : tie.Need-take-item-requires
+take-item-requires c κs =
     let f = c .before .before .before .before .before .before .before .before .before in
     let d = f .before .before in
     let s = d .before .before .before .before .before .before .before in
-    let w = whole-size (subst (StandsAt (place s) (s .args .bytes .now) (s .args .ended)) (sym (stands d _ (f .found .given .1))) (found-at (place s) (s .args .bytes .now) (s .args .ended))) in
+    let here = found-at (place s) (s .args .bytes .now) (s .args .ended) in
+    let w = whole-size (subst (StandsAt (place s) (s .args .bytes .now) (s .args .ended)) (sym (stands d _ (f .found .given .1))) here) in
     (w .2, s .pre .0, s .pre .1, s .pre .2, s .pre .3)
 
 enum-told : tie.Need-enum-told
@@ -93,12 +96,15 @@ same-length-8 c = search needs
 
 returns : tie.Need-returns
 returns c =
-    let e = c .before .before .before .before .before .before .before .before .before .before .take-record .ensures in
-    (e .0 ∙ sym (found-turn (c .before .before .before .before .before .before .before .before .before .before .before .before .before .before .before .before .before .before .before .before .before .before) _ (c .before .before .before .before .before .before .before .before .before .before .before .before .before .before .before .before .before .before .before .before .found .given .1)), e .1)
+    let t = c .before .before .before .before .before .before .before .before .before .before in
+    let f = t .before .before .before .before .before .before .before .before .before .before in
+    let e = t .take-item .ensures in
+    (e .0 ∙ sym (found-turn (f .before .before) _ (f .found .given .1)), e .1)
 
 returns-2 : tie.Need-returns-2
 returns-2 c =
-    (rw (c .quiet .ensures) (sym (found-turn (c .before .before .before) found.Short (c .before .enum-told .given .1))), omega (arith, ap (λ (t : Turned). t .length) (c .quiet .ensures)))
+    let e = c .quiet .ensures in
+    (rw e (sym (found-turn (c .before .before .before) found.Short (c .before .enum-told .given .1))), omega (arith, ap (λ (t : Turned). t .length) e))
 
 same-length-9 : tie.Need-same-length-9
 same-length-9 c = search needs
@@ -111,7 +117,10 @@ returns-3 c =
 
 returns-4 : tie.Need-returns-4
 returns-4 c =
-    (rw (c .quiet2 .ensures, c .before .stop .ensures) (sym (found-turn (c .before .before .before .before) found.End (c .before .before .enum-told3 .given .1))), omega (arith, ap (λ (t : Turned). t .length) (c .quiet2 .ensures)))
+    let e = c .quiet2 .ensures in
+    let f = c .before .before in
+    let q = sym (found-turn (f .before .before) found.End (f .enum-told3 .given .1)) in
+    (rw (e, c .before .stop .ensures) q, omega (arith, ap (λ (t : Turned). t .length) e))
 
 pub take-turn-spec : {M : Type 1} → statement M
 take-turn-spec =
@@ -120,7 +129,7 @@ take-turn-spec =
     day-length-requires
     decode-requires
     enum-known-found
-    take-record-requires
+    take-item-requires
     enum-told
     quiet-requires
     enum-told-2

@@ -21,7 +21,7 @@ abbrev μ-loop : tie.MeasureT-loop
 μ-loop rows r mean out₀ at next₀ k₀ out next k = rows - k
 
 loop-holds : tie.Need-loop-holds Inv-loop μ-loop
-loop-holds c = (omega arith, omega arith, refl, rows-none (c .before .args .r .now) (c .before .args .mean .now) (c .before .args .at) (c .before .args .out .now))
+loop-holds c = let a = c .before .args in (omega arith, omega arith, refl, rows-none (a .r .now) (a .mean .now) (a .at) (a .out .now))
 
 mul-row-text : tie.Need-mul-row-text Inv-loop μ-loop
 mul-row-text c = search needs
@@ -36,7 +36,9 @@ shared-slice-copy-out-row-text-2 : tie.Need-shared-slice-copy-out-row-text-2 Inv
 shared-slice-copy-out-row-text-2 c = search needs
 
 cast-row-text : tie.Need-cast-row-text Inv-loop μ-loop
-cast-row-text c = wide-fits (lists.at (c .before .before .before .before .before .args .mean .now) (c .before .before .before .loop .k)) (c .row-text-arg2 .given)
+cast-row-text c =
+    let l = c .before .before .before in
+    wide-fits (lists.at (l .before .before .args .mean .now) (l .loop .k)) (c .row-text-arg2 .given)
 
 row-text-requires : tie.Need-row-text-requires Inv-loop μ-loop
 row-text-requires c κs = tt
@@ -55,13 +57,19 @@ loop-less c = search needs
 
 loop-again : tie.Need-loop-again Inv-loop μ-loop
 loop-again c =
-    let l = c .before .before .before .before .before .before .before .before .loop in
-    let e = c .before .before .put-text .ensures in
-    let a = c .before .before .before .before .before .before .before .before .before .before .args in
-    let q =
-    c .before .before .before .before .row-text .ensures .0
-    ∙ ap₂ (rowBytes (l .k)) (read w64 (lists.at (a .r .now) (l .k)) (c .before .before .before .before .before .before .row-text-arg .given)) (wide (lists.at (a .mean .now) (l .k)) (c .before .before .before .before .before .row-text-arg2 .given)) in
-    (omega arith, omega (arith, e .1, l .inv .1), c .before .before .put-text .kept .1 .0 ∙ l .inv .2, rows-more (l .k) (a .r .now) (a .mean .now) (l .inv .3) (rw q at (e .0)))
+    let t = c .before .before in
+    let x = t .before .before in
+    let l = x .before .before .before .before .loop in
+    let a = x .before .before .before .before .before .before .args in
+    let e = t .put-text .ensures in
+    let r = read w64 (lists.at (a .r .now) (l .k)) (x .before .before .row-text-arg .given) in
+    let m = wide (lists.at (a .mean .now) (l .k)) (x .before .row-text-arg2 .given) in
+    let q = x .row-text .ensures .0 ∙ ap₂ (rowBytes (l .k)) r m in (
+      omega arith,
+      omega (arith, e .1, l .inv .1),
+      t .put-text .kept .1 .0 ∙ l .inv .2,
+      rows-more (l .k) (a .r .now) (a .mean .now) (l .inv .3) (rw q at (e .0)),
+    )
 
 same-length : tie.Need-same-length Inv-loop μ-loop
 same-length c = c .before .loop .inv .2

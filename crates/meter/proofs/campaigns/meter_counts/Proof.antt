@@ -37,7 +37,7 @@ tables-short-requires c κs = search needs
 returns : tie.Need-returns
 returns c =
     let a = c .before .before .before .before .args in
-    refused (a .order) (a .taps) (a .count) (a .days .now) (a .slots .now) (a .store .now) (a .sums .now) (tally (c .before .before .before .before))
+    refused (a .order) (a .taps) (a .capacity) (a .days .now) (a .slots .now) (a .store .now) (a .sums .now) (tally (c .before .before .before .before))
     (sym (c .before .tables-short .ensures) ∙ c .if1 .taken)
 
 -- past the check
@@ -58,7 +58,7 @@ returns-2 c =
     let k = c .before .before .before .before .before .before in
     let i = k .before .before in
     let a = i .before .before .before .before .args in
-    opened (a .order) (a .taps) (a .count) (a .days .now) (a .slots .now) (a .store .now) (a .sums .now) (tally (i .before .before .before .before))
+    opened (a .order) (a .taps) (a .capacity) (a .days .now) (a .slots .now) (a .store .now) (a .sums .now) (tally (i .before .before .before .before))
     (wide i) (k .before .read-record .ensures) (k .counts .ensures) (c .write-counts .ensures)
 
 pub meter-counts-spec : {M : Type 1} → statement M

@@ -23,12 +23,12 @@ module _ (N taps C : ℕ) (days slots : List ℕ) (store sums : List ℤ) (d : �
 
   opened : tablesShort days slots ≡ false → {c : Campaign} {e : Entered} {s u : List ℤ} {r q v : ℕ} {days′ slots′ : List ℕ}
       → c ≡ recordOf N taps C days slots → (e, s, u) ≡ enterOutcome c store sums d y
-      → (days′ ≡ put (e .campaign .days) days) × (slots′ ≡ put (e .campaign .table) slots)
+      → (days′ ≡ put (e .campaign .days) days) × (slots′ ≡ put (e .campaign .slots) slots)
       → (r, (q, v)) ≡ meant (state, value) (verdictMeans (e .entry .verdict))
       → (r, days′, slots′, s, u, q, v) ≡ enterDoor N taps C days slots store sums d y state value
   unfolding enterDoor
   opened h {e = e} {s = s} {u = u} k o (f, g) a =
-      through days slots _ (enteredOut days slots state value) {o = (e, s, u)} h (rw (f, g) (ap (λ t. (t .0, put (e .campaign .days) days, put (e .campaign .table) slots, s, u, t .1 .0, t .1 .1)) a)) (o ∙ ap (λ c. enterOutcome c store sums d y) k)
+      through days slots _ (enteredOut days slots state value) {o = (e, s, u)} h (rw (f, g) (ap (λ t. (t .0, put (e .campaign .days) days, put (e .campaign .slots) slots, s, u, t .1 .0, t .1 .1)) a)) (o ∙ ap (λ c. enterOutcome c store sums d y) k)
 
 tables-short-requires : tie.Need-tables-short-requires
 tables-short-requires c κs = search needs
@@ -36,7 +36,7 @@ tables-short-requires c κs = search needs
 returns : tie.Need-returns
 returns c =
     let a = c .before .before .before .before .args in
-    refused (a .order) (a .taps) (a .count) (a .days .now) (a .slots .now) (a .store .now) (a .sums .now) (a .day) (a .y .now) (a .state .now) (a .value .now)
+    refused (a .order) (a .taps) (a .capacity) (a .days .now) (a .slots .now) (a .store .now) (a .sums .now) (a .day) (a .y .now) (a .state .now) (a .value .now)
     (sym (c .before .tables-short .ensures) ∙ c .if1 .taken)
 
 -- past the check
@@ -74,7 +74,7 @@ returns-2 c =
     let k = e .before .before .before in
     let i = k .before .before .before in
     let a = i .before .before .before .before .args in
-    opened (a .order) (a .taps) (a .count) (a .days .now) (a .slots .now) (a .store .now) (a .sums .now) (a .day) (a .y .now) (a .state .now) (a .value .now)
+    opened (a .order) (a .taps) (a .capacity) (a .days .now) (a .slots .now) (a .store .now) (a .sums .now) (a .day) (a .y .now) (a .state .now) (a .value .now)
     (wide i) (k .read-record .ensures) (e .enter .ensures) (w .write-record .ensures) (c .write-verdict .ensures)
 
 pub meter-enter-spec : {M : Type 1} → statement M

@@ -29,7 +29,7 @@ tables-short-requires c κs = search needs
 returns : tie.Need-returns
 returns c =
     let a = c .before .before .before .before .before .args in
-    refused (a .order) (a .taps) (a .count) (a .days .now) (a .slots .now) (a .store .now) (a .sums .now) (a .r .now) (a .mean .now) (a .room .now) (a .tags .now)
+    refused (a .order) (a .taps) (a .capacity) (a .days .now) (a .slots .now) (a .store .now) (a .sums .now) (a .r .now) (a .mean .now) (a .room .now) (a .tags .now)
     (sym (c .before .tables-short .ensures) ∙ c .if1 .taken)
 
 -- past the check
@@ -60,7 +60,7 @@ returns-2 c =
     let k = x .before .before .before .before .before in
     let i = k .before in
     let a = i .before .before .before .before .before .args in
-    opened (a .order) (a .taps) (a .count) (a .days .now) (a .slots .now) (a .store .now) (a .sums .now) (a .r .now) (a .mean .now) (a .room .now) (a .tags .now)
+    opened (a .order) (a .taps) (a .capacity) (a .days .now) (a .slots .now) (a .store .now) (a .sums .now) (a .r .now) (a .mean .now) (a .room .now) (a .tags .now)
     (wide i) (k .read-record .ensures) (x .response .ensures)
 
 pub meter-response-spec : {M : Type 1} → statement M

@@ -26,7 +26,7 @@ module _ (N taps C : ℕ) (days slots : List ℕ) (store sums : List ℤ) where
 
   opened : tablesShort days slots ≡ false → {c : Campaign} {e : Started} {s u : List ℤ} {days′ slots′ : List ℕ}
       → c ≡ recordOf N taps C days slots → (e, s, u) ≡ startOutcome c N taps C store sums
-      → (days′ ≡ put (e .campaign .days) days) × (slots′ ≡ put (e .campaign .table) slots)
+      → (days′ ≡ put (e .campaign .days) days) × (slots′ ≡ put (e .campaign .slots) slots)
       → (e .answer, days′, slots′, s, u) ≡ startDoor N taps C days slots store sums
   opened h {e = e} {s = s} {u = u} k o (f, g) =
       rw (f, g) (ap (startedOut days slots) (o ∙ ap (λ c. startOutcome c N taps C store sums) k) ∙ sym (start-opened N taps C days slots store sums h))
@@ -41,7 +41,7 @@ returns : tie.Need-returns
 returns c =
     let t = c .before in
     let a = t .before .before .before .before .args in
-    refused (a .order) (a .taps) (a .count) (a .days .now) (a .slots .now) (a .store .now) (a .sums .now)
+    refused (a .order) (a .taps) (a .capacity) (a .days .now) (a .slots .now) (a .store .now) (a .sums .now)
     (sym (t .before .tables-short .ensures) ∙ t .if1 .taken) (c .start-refusal .ensures)
 
 -- past the check
@@ -76,7 +76,7 @@ returns-2 c =
     let k = e .before .before .before in
     let i = k .before .before .before in
     let a = i .before .before .before .before .args in
-    opened (a .order) (a .taps) (a .count) (a .days .now) (a .slots .now) (a .store .now) (a .sums .now)
+    opened (a .order) (a .taps) (a .capacity) (a .days .now) (a .slots .now) (a .store .now) (a .sums .now)
     (wide i) (k .read-record .ensures) (e .start .ensures) (w .write-record .ensures)
 
 pub meter-start-spec : {M : Type 1} → statement M

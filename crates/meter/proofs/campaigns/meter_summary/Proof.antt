@@ -37,7 +37,7 @@ tables-short-requires c κs = search needs
 returns : tie.Need-returns
 returns c =
     let a = c .before .before .before .before .before .args in
-    refused (a .order) (a .taps) (a .count) (a .days .now) (a .slots .now) (a .store .now) (a .sums .now) (a .room .now) (a .tags .now) (a .stands .now) (levels (c .before .before .before .before .before))
+    refused (a .order) (a .taps) (a .capacity) (a .days .now) (a .slots .now) (a .store .now) (a .sums .now) (a .room .now) (a .tags .now) (a .stands .now) (levels (c .before .before .before .before .before))
     (sym (c .before .tables-short .ensures) ∙ c .if1 .taken)
 
 -- past the check
@@ -64,7 +64,7 @@ returns-2 c =
     let s = c .before .before .before .before .before .before .before .before in
     let i = s .before .before .before .before in
     let a = i .before .before .before .before .before .args in
-    opened (a .order) (a .taps) (a .count) (a .days .now) (a .slots .now) (a .store .now) (a .sums .now) (a .room .now) (a .tags .now) (a .stands .now) (levels (i .before .before .before .before .before))
+    opened (a .order) (a .taps) (a .capacity) (a .days .now) (a .slots .now) (a .store .now) (a .sums .now) (a .room .now) (a .tags .now) (a .stands .now) (levels (i .before .before .before .before .before))
     (wide i) (s .before .before .before .read-record .ensures) (s .summary .ensures) (c .write-summary .ensures)
 
 pub meter-summary-spec : {M : Type 1} → statement M

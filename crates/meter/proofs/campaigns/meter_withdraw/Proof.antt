@@ -21,7 +21,7 @@ module _ (N taps C : ℕ) (days slots : List ℕ) (store sums : List ℤ) (d : �
 
   opened : tablesShort days slots ≡ false → {c : Campaign} {e : Withdrawn} {s u : List ℤ} {days′ slots′ : List ℕ}
       → c ≡ recordOf N taps C days slots → (e, s, u) ≡ withdrawOutcome c store sums d
-      → (days′ ≡ put (e .campaign .days) days) × (slots′ ≡ put (e .campaign .table) slots)
+      → (days′ ≡ put (e .campaign .days) days) × (slots′ ≡ put (e .campaign .slots) slots)
       → (e .answer, days′, slots′, s, u) ≡ withdrawDoor N taps C days slots store sums d
   unfolding withdrawDoor
   opened h {e = e} {s = s} {u = u} k o (f, g) =
@@ -33,7 +33,7 @@ tables-short-requires c κs = search needs
 returns : tie.Need-returns
 returns c =
     let a = c .before .before .before .before .args in
-    refused (a .order) (a .taps) (a .count) (a .days .now) (a .slots .now) (a .store .now) (a .sums .now) (a .day)
+    refused (a .order) (a .taps) (a .capacity) (a .days .now) (a .slots .now) (a .store .now) (a .sums .now) (a .day)
     (sym (c .before .tables-short .ensures) ∙ c .if1 .taken)
 
 -- past the check
@@ -68,7 +68,7 @@ returns-2 c =
     let k = e .before .before .before in
     let i = k .before .before .before in
     let a = i .before .before .before .before .args in
-    opened (a .order) (a .taps) (a .count) (a .days .now) (a .slots .now) (a .store .now) (a .sums .now) (a .day)
+    opened (a .order) (a .taps) (a .capacity) (a .days .now) (a .slots .now) (a .store .now) (a .sums .now) (a .day)
     (wide i) (k .read-record .ensures) (e .withdraw .ensures) (w .write-record .ensures)
 
 pub meter-withdraw-spec : {M : Type 1} → statement M

@@ -16,8 +16,8 @@ days-front c = length-take-le 366 (c .args .days .now) (c .pre .0)
 slots-front : (c : tie.Start) → length (take 64 (c .args .slots .now)) ≡ 64
 slots-front c = length-take-le 64 (c .args .slots .now) (c .pre .1)
 
-alike : {N taps C : ℕ} {d days t table : List ℕ} → d ≡ days → t ≡ table
-    → _≡_ {A = Campaign} (record { order = N; taps = taps; slots = C; days = d; table = t }) (record { order = N; taps = taps; slots = C; days = days; table = table })
+alike : {N taps C : ℕ} {d days s slots : List ℕ} → d ≡ days → s ≡ slots
+    → _≡_ {A = Campaign} (record { order = N; taps = taps; capacity = C; days = d; slots = s }) (record { order = N; taps = taps; capacity = C; days = days; slots = slots })
 alike p q = rw (p, q)
 
 slice-aggregate-copy-days : tie.Need-slice-aggregate-copy-days

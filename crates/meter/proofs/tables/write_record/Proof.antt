@@ -9,7 +9,7 @@ use Rattle.meter.proofs.tables.write_record.Tie as tie
 days-sized : (c : tie.Start) → length (c .args .c .days) ≡ 366
 days-sized c = search needs
 
-slots-sized : (c : tie.Start) → length (c .args .c .table) ≡ 64
+slots-sized : (c : tie.Start) → length (c .args .c .slots) ≡ 64
 slots-sized c = search needs
 
 slice-aggregate-copy-days : tie.Need-slice-aggregate-copy-days

@@ -18,19 +18,26 @@ start c = c .before .before .before .before .before .before .before .before .bef
 abbrev left : tie.After-count → ℕ
 left c = start c .args .p .to - start c .args .p .from
 
+abbrev moved : tie.After-count → tie.After-to-front
+moved c = c .before .before .before .before .before .before .before .before .before
+
 abbrev front : tie.After-count → List ℕ
-front c = c .before .before .before .before .before .before .before .before .before .to-front .last .0
+front c = moved c .to-front .last .0
+
+abbrev after-read : tie.After-count → tie.After-read
+after-read c = c .before .before .before .before .before
 
 abbrev part : tie.After-count → List ℕ
-part c = c .before .before .before .before .before .read .last .1 .0
+part c = after-read c .read .last .1 .0
 
 -- what was read fits there
 fits : (c : tie.After-count) → (left c ≤ length (front c)) × (c .count .result ≤ length (part c)) × (left c + c .count .result ≤ length (front c))
 fits c =
-    let k = c .before .before .before .before .before .read .kept .1 .0 in
+    let k = after-read c .read .kept .1 .0 in
     let whole = same-len-mid (left c) (length (front c) - left c) (front c) (part c) k in
-    let l : left c ≤ length (front c) = omega (arith, start c .pre, c .before .before .before .before .before .before .before .before .before .to-front .kept .0) in
-    let m : c .count .result ≤ length (part c) = omega (arith, whole, simp (length-take, length-drop) at k, simp (length-take, length-drop) at (c .count .ensures .0 .0)) in
+    let l : left c ≤ length (front c) = omega (arith, start c .pre, moved c .to-front .kept .0) in
+    let m : c .count .result ≤ length (part c) =
+    omega (arith, whole, simp (length-take, length-drop) at k, simp (length-take, length-drop) at (c .count .ensures .0 .0)) in
     (l, m, omega (arith, simp (length-take, length-drop) at k))
 
 to-front-requires : tie.Need-to-front-requires
@@ -64,7 +71,7 @@ count-requires : tie.Need-count-requires
 count-requires c κs = search needs
 
 received-requires : tie.Need-received-requires
-received-requires c κs = (start c .pre .0 .forth, omega (arith, fits c, c .before .before .before .before .before .before .before .before .before .to-front .kept .0))
+received-requires c κs = (start c .pre .0 .forth, omega (arith, fits c, moved c .to-front .kept .0))
 
 same-length : tie.Need-same-length
 same-length c = search needs
@@ -72,10 +79,11 @@ same-length c = search needs
 returns : tie.Need-returns
 returns c =
     let b = c .before in
-    let e = b .before .before .before .before .before .before .before .before .before .to-front .ensures in
-    let whole = same-len-mid (left b) (length (front b) - left b) (front b) (part b) (b .before .before .before .before .before .read .kept .1 .0) in
+    let e = moved b .to-front .ensures in
+    let whole = same-len-mid (left b) (length (front b) - left b) (front b) (part b) (after-read b .read .kept .1 .0) in
     rw (c .received .ensures)
-    (refilled (start b .args .p) (toZ w64 (ofZ w64 (b .before .before .before .before .before .read .result))) (b .count .result) (start b .args .bytes .now) (front b) (part b) _ (fits b .0) (fits b .1) e (omega (arith, fits b, whole)))
+    (refilled (start b .args .p) (toZ w64 (ofZ w64 (after-read b .read .result))) (b .count .result)
+    (start b .args .bytes .now) (front b) (part b) _ (fits b .0) (fits b .1) e (omega (arith, fits b, whole)))
 
 pub refill-spec : {M : Type 1} → statement M
 refill-spec =

@@ -17,7 +17,8 @@ use Rattle.meterlog.proofs.running.run.Statement.{statement}
 use Rattle.meterlog.proofs.running.run.Tie as tie
 
 -- what is lent keeps its length
-record Lent (bytes₀ out₀ : List ℕ) (store₀ sums₀ recording₀ r₀ mean₀ room₀ : List ℤ) (tags₀ bytes out : List ℕ) (store sums recording r mean room : List ℤ) (tags : List ℕ) : Type 0 where
+record Lent (bytes₀ out₀ : List ℕ) (store₀ sums₀ recording₀ r₀ mean₀ room₀ : List ℤ) (tags₀ : List ℕ)
+    (bytes out : List ℕ) (store sums recording r mean room : List ℤ) (tags : List ℕ) : Type 0 where
   same-bytes : length bytes ≡ length bytes₀
   same-out : length out ≡ length out₀
   same-store : length store ≡ length store₀
@@ -46,7 +47,17 @@ loop-holds c =
       record { forth = omega arith; inside = omega arith },
       omega (arith, ap (λ (p : Place). p .offset) (c .first-mark .ensures)),
       λ e. absurd (subst T (sym (ap (λ (p : Place). p .going) (c .first-mark .ensures)) ∙ e) tt),
-      record { same-bytes = refl; same-out = refl; same-store = refl; same-sums = refl; same-recording = refl; same-r = refl; same-mean = refl; same-room = refl; same-tags = refl },
+      record {
+        same-bytes = refl;
+        same-out = refl;
+        same-store = refl;
+        same-sums = refl;
+        same-recording = refl;
+        same-r = refl;
+        same-mean = refl;
+        same-room = refl;
+        same-tags = refl;
+      },
       held-first _ (c .first-mark .result) (s .pre .0) (c .first-mark .ensures),
     )
 
@@ -59,29 +70,48 @@ lengths s = (
 
 step-requires : tie.Need-step-requires Inv-loop μ-loop
 step-requires c κs =
-    let s = c .before .before .before .before .before .before .before .before .before .before .before .before .before .before .before in
-    let l = c .before .before .before .before .before .before .before .before .before .before .loop in
+    let w = c .before .before .before .before .before .before .before .before .before .before in
+    let l = w .loop in
+    let s = w .before .before .before .before .before in
     let long = lengths s in (
       (l .inv .0, omega (arith, l .inv .1), omega (arith, s .pre .1 .1, l .inv .3 .same-bytes)),
       (omega (arith, long .0, l .inv .3 .same-r), omega (arith, long .1, l .inv .3 .same-mean), omega (arith, s .pre .1 .0, l .inv .3 .same-out)),
     )
 
 turns-left-requires : tie.Need-turns-left-requires Inv-loop μ-loop
-turns-left-requires c κs = c .before .before .before .before .before .before .before .before .before .before .before .before .before .before .before .before .before .before .before .before .before .before .before .loop-test .taken
+turns-left-requires c κs =
+    let x = c .before .before .before .before .before .before .before .before .before .before .before .before .before in
+    x .before .before .before .before .before .before .before .before .before .before .loop-test .taken
 
 loop-less : tie.Need-loop-less Inv-loop μ-loop
-loop-less c = fewer (c .before .before .before .before .before .before .before .before .before .before .before .before .before .before .step .result .mark .going) (c .before .before .before .before .before .before .before .before .before .before .before .before .before .before .before .before .before .before .before .before .before .before .before .before .before .loop .turns) (c .turns-left .ensures) (c .before .before .before .before .before .before .before .before .before .before .before .before .before .before .before .before .before .before .before .before .before .before .before .before .loop-test .taken)
+loop-less c =
+    let x = c .before .before .before .before .before .before .before .before .before .before .before .before .before .before in
+    let t = x .before .before .before .before .before .before .before .before .before .before in
+    fewer (x .step .result .mark .going) (t .before .loop .turns) (c .turns-left .ensures) (t .loop-test .taken)
 
 loop-again : tie.Need-loop-again Inv-loop μ-loop
 loop-again c =
-    let l = c .before .before .before .before .before .before .before .before .before .before .before .before .before .before .before .before .before .before .before .before .before .before .before .before .before .loop in
-    let q = c .before .before .before .before .before .before .before .before .before .before .before .before .before .before .step .ensures in
-    let k = c .before .before .before .before .before .before .before .before .before .before .before .before .before .before .step .kept in
-    let some = c .before .before .before .before .before .before .before .before .before .before .before .before .before .before .before .before .before .before .before .before .before .before .before .before .loop-test .taken in (
+    let x = c .before .before .before .before .before .before .before .before .before .before .before .before .before .before in
+    let t = x .before .before .before .before .before .before .before .before .before .before in
+    let l = t .before .loop in
+    let h = l .inv .3 in
+    let q = x .step .ensures in
+    let k = x .step .kept in
+    let some = t .loop-test .taken in (
       q .1,
-      omega (arith, offset-after (q .0), fewer (c .before .before .before .before .before .before .before .before .before .before .before .before .before .before .step .result .mark .going) (l .turns) (c .turns-left .ensures) some, l .inv .1),
+      omega (arith, offset-after (q .0), fewer (x .step .result .mark .going) (l .turns) (c .turns-left .ensures) some, l .inv .1),
       λ e. c .turns-left .ensures ∙ rw e refl,
-      record { same-bytes = k .1 .0 ∙ l .inv .3 .same-bytes; same-out = k .1 .1 .0 ∙ l .inv .3 .same-out; same-store = k .1 .1 .1 .0 ∙ l .inv .3 .same-store; same-sums = k .1 .1 .1 .1 .0 ∙ l .inv .3 .same-sums; same-recording = k .1 .1 .1 .1 .1 .0 ∙ l .inv .3 .same-recording; same-r = k .1 .1 .1 .1 .1 .1 .0 ∙ l .inv .3 .same-r; same-mean = k .1 .1 .1 .1 .1 .1 .1 .0 ∙ l .inv .3 .same-mean; same-room = k .1 .1 .1 .1 .1 .1 .1 .1 .0 ∙ l .inv .3 .same-room; same-tags = k .1 .1 .1 .1 .1 .1 .1 .1 .1 .0 ∙ l .inv .3 .same-tags },
+      record {
+        same-bytes = k .1 .0 ∙ h .same-bytes;
+        same-out = k .1 .1 .0 ∙ h .same-out;
+        same-store = k .1 .1 .1 .0 ∙ h .same-store;
+        same-sums = k .1 .1 .1 .1 .0 ∙ h .same-sums;
+        same-recording = k .1 .1 .1 .1 .1 .0 ∙ h .same-recording;
+        same-r = k .1 .1 .1 .1 .1 .1 .0 ∙ h .same-r;
+        same-mean = k .1 .1 .1 .1 .1 .1 .1 .0 ∙ h .same-mean;
+        same-room = k .1 .1 .1 .1 .1 .1 .1 .1 .0 ∙ h .same-room;
+        same-tags = k .1 .1 .1 .1 .1 .1 .1 .1 .1 .0 ∙ h .same-tags;
+      },
       rw (c .turns-left .ensures) (held-step some (l .inv .4) (goes (l .p .mark .going) (l .turns) (l .inv .2) some) (q .0)),
     )
 
@@ -113,7 +143,7 @@ same-length-9 : tie.Need-same-length-9 Inv-loop μ-loop
 same-length-9 c = c .before .loop .inv .3 .same-tags
 
 returns : tie.Need-returns Inv-loop μ-loop
-returns c = let z : c .before .loop .turns ≡ 0 = omega arith in held-last (rw z at (c .before .loop .inv .4))
+returns c = let z : c .before .loop .turns ≡ 0 = omega arith in (held-last (rw z at (c .before .loop .inv .4)), c .before .loop .inv .0)
 
 pub run-spec : {M : Type 1} → statement M
 run-spec =

@@ -26,7 +26,8 @@ abbrev start : tie.After-take-turn → tie.Start
 start c = c .before .before .before .before .before .before .before .before .before .before .before .before .before .before .before
 
 -- where the bytes at hand are too few
-short-turn : (c : tie.After-take-turn) → c .take-turn .result .short ≡ true → turn (first (start c) .place) (first (start c) .hand) (first (start c) .ended) .short ≡ true
+short-turn : (c : tie.After-take-turn) → c .take-turn .result .short ≡ true
+    → turn (first (start c) .place) (first (start c) .hand) (first (start c) .ended) .short ≡ true
 short-turn c e = ap (λ (t : Turn). t .short) (sym (c .take-turn .ensures .0)) ∙ e
 
 few : (c : tie.After-take-turn) → c .take-turn .result .short ≡ true → start c .args .p .to - start c .args .p .from ≤ 4
@@ -35,7 +36,9 @@ few c e =
     omega (arith, simp (length-take, length-drop) at (short-few (m .place) (m .hand) (m .ended) (short-turn c e)), start c .pre .0)
 
 abbrev after : tie.After-take-turn → Memory
-after c = let l = c .take-turn .last .1 .1 .1 in memory (l .0) (l .1 .0) (l .1 .1 .0) (l .1 .1 .1 .0) (l .1 .1 .1 .1 .0) (l .1 .1 .1 .1 .1 .0) (l .1 .1 .1 .1 .1 .1 .0)
+after c =
+    let l = c .take-turn .last .1 .1 .1 in
+    memory (l .0) (l .1 .0) (l .1 .1 .0) (l .1 .1 .1 .0) (l .1 .1 .1 .1 .0) (l .1 .1 .1 .1 .1 .0) (l .1 .1 .1 .1 .1 .1 .0)
 
 unmoved : (c : tie.After-take-turn) → c .take-turn .result .short ≡ true → after c ≡ first (start c) .place .memory
 unmoved c e =
@@ -62,7 +65,8 @@ take-turn-requires c κs = search needs
 read-more-requires : tie.Need-read-more-requires
 read-more-requires c κs =
     let t = c .before .before .before .before .before .before .before .before .before .before .before .before .before in
-    (start t .pre .0 .0, omega (arith, few t (c .before .before .if1 .taken), start t .pre), omega (arith, start t .pre .1, t .take-turn .kept .1 .1 .1 .1 .1 .1 .1 .1 .1 .1 .0))
+    let k = t .take-turn .kept .1 .1 .1 .1 .1 .1 .1 .1 .1 .1 .0 in
+    (start t .pre .0 .0, omega (arith, few t (c .before .before .if1 .taken), start t .pre), omega (arith, start t .pre .1, k))
 
 same-length : tie.Need-same-length
 same-length c = search needs
@@ -105,7 +109,8 @@ slice-reshare-prefix-write-all : tie.Need-slice-reshare-prefix-write-all
 slice-reshare-prefix-write-all c = search needs
 
 slice-aggregate-write-all : tie.Need-slice-aggregate-write-all
-slice-aggregate-write-all c = sym (length-take-le _ _ (c .before .before .before .before .before .before .before .before .before .before .before .before .take-turn .ensures .1))
+slice-aggregate-write-all c =
+    sym (length-take-le _ _ (c .before .before .before .before .before .before .before .before .before .before .before .before .take-turn .ensures .1))
 
 write-all-requires : tie.Need-write-all-requires
 write-all-requires c κs = search needs
@@ -149,7 +154,8 @@ returns-2 c =
     let a = start t .args in
     let i = start t .pre .0 .0 in
     rw (c .before .written .ensures) (
-      written-step (a .p) (a .bytes .now) (t .take-turn .result) _ (a .bytes .now) (c .before .before .write-all .result) (t .take-turn .ensures .0) (c .before .before .before .before .if1 .left)
+      written-step (a .p) (a .bytes .now) (t .take-turn .result) _ (a .bytes .now) (c .before .before .write-all .result)
+          (t .take-turn .ensures .0) (c .before .before .before .before .if1 .left)
           (hand-passed (a .bytes .now) (a .p .from) (a .p .to) (t .take-turn .result .used) (used-fits t) (i .inside)),
       provided-inside (c .before .before .write-all .result) _ _ (record { forth = used-fits t; inside = i .inside }),
     )

@@ -7,7 +7,7 @@ use borrow.Rule.Slice.PartMut.{midOf}
 use lib.IntN.{pos, _-ℤ_}
 use Rattle.sums.specs.Lists.{at, table, put}
 use Rattle.sums.proofs.Tables.{length-table, table-ext}
-use Rattle.records.proofs.Parts.{part-length, part-put, part-at}
+use Rattle.sums.proofs.Parts.{part-length, part-put, part-at}
 use Rattle.records.proofs.slots.empty_slot.Statement.{statement}
 use Rattle.records.proofs.slots.empty_slot.Tie as tie
 

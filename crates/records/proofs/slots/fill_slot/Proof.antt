@@ -5,7 +5,7 @@ use borrow.Author.Needs.{needs}
 use borrow.Rule.Slice.PartMut.{midOf}
 use lib.ListN.{length}
 use Rattle.sums.specs.Lists.{put}
-use Rattle.records.proofs.Parts.{table-at, part-put, by-sums}
+use Rattle.sums.proofs.Parts.{table-at, part-put, by-sums}
 use Rattle.records.proofs.slots.fill_slot.Statement.{statement}
 use Rattle.records.proofs.slots.fill_slot.Tie as tie
 

@@ -12,8 +12,8 @@ use mir.Syntax.{w32, w64}
 use mir.Facts.{toZ-ofZ}
 use Rattle.sums.specs.Lists.{at, every}
 use Rattle.sums.proofs.Bound.{small-fits, read, wide, wide-fits, natAbs-+, natAbs-≤}
-use Rattle.records.specs.Record.{inside}
-use Rattle.records.proofs.Rows.{every-next}
+use Rattle.samples.specs.Samples.{inside}
+use Rattle.sums.proofs.Everywhere.{every-next}
 use Rattle.records.proofs.stored.add_row.Statement.{statement}
 use Rattle.records.proofs.stored.add_row.Tie as tie
 

@@ -11,18 +11,18 @@ use lib.ListN.{length, getD, take, drop, length-drop}
 use lib.Seq.{length-take-le, getD-take, getD-drop}
 use Rattle.sums.specs.Lists.{at, every}
 use Rattle.sums.proofs.Tables.{at-put}
-use Rattle.records.specs.Record.{eqZ}
-use Rattle.records.proofs.Rows.{every-ext}
+use Rattle.sums.specs.Equal.{eqZ}
+use Rattle.sums.proofs.Everywhere.{every-ext}
 use Rattle.records.proofs.Reading.{ReadSo, tested, none-read, row-at, more-read, row-refutes, sums-hold, sums-pass, found-small}
 use Rattle.records.proofs.stored.block_holds.Statement.{statement}
 use Rattle.records.proofs.stored.block_holds.Tie as tie
 
 abbrev Inv-loop : tie.InvT-loop
-Inv-loop table slots period store sums from count found₀ s₀ found s =
-    (s ≤ slots) × (length found ≡ length found₀) × ReadSo table period store from count s found
+Inv-loop slots C period store sums from count found₀ s₀ found s =
+    (s ≤ C) × (length found ≡ length found₀) × ReadSo slots period store from count s found
 
 abbrev μ-loop : tie.MeasureT-loop
-μ-loop table slots period store sums from count found₀ s₀ found s = slots - s
+μ-loop slots C period store sums from count found₀ s₀ found s = C - s
 
 -- the row of slot s lies in the store
 within : (l : tie.In-loop Inv-loop μ-loop) → let a = l .before .before .before .before .before .before .args in
@@ -105,7 +105,7 @@ take-row-requires c κs =
 
 -- what the test of the row says
 told : (c : tie.After-take-row Inv-loop μ-loop) → let l = c .before .before .before .before in let a = l .before .before .before .before .before .before .args in
-    c .take-row .result ≡ tested (getD (a .table .now) (l .before .loop .s) 0) (a .count) (row l)
+    c .take-row .result ≡ tested (getD (a .slots .now) (l .before .loop .s) 0) (a .count) (row l)
 told c = rw (row-long (c .before .before .before .before)) at (c .take-row .ensures .0)
 
 -- the room lent is as long as it was
@@ -121,7 +121,7 @@ returns c =
     let l = t .before .before .before .before in
     let a = l .before .before .before .before .before .before .args in (
       λ e. absurd (true≢false (sym e)),
-      λ b. absurd (row-refutes (a .table .now) (a .period) (a .store .now) (a .from) (a .count) (l .before .loop .s) (row l) (row-holds-at l) (l .loop-test .taken)
+      λ b. absurd (row-refutes (a .slots .now) (a .period) (a .store .now) (a .from) (a .count) (l .before .loop .s) (row l) (row-holds-at l) (l .loop-test .taken)
           (sym (told t) ∙ not-true _ (c .if1 .taken)) b),
     )
 
@@ -138,7 +138,7 @@ loop-again c =
     let a = l .before .before .before .before .before .before .args in (
       omega arith,
       kept-long t,
-      more-read (a .table .now) (a .period) (a .store .now) (a .from) (a .count) (l .before .loop .s) (row l) (row-holds-at l) (l .before .loop .inv .2)
+      more-read (a .slots .now) (a .period) (a .store .now) (a .from) (a .count) (l .before .loop .s) (row l) (row-holds-at l) (l .before .loop .inv .2)
           (sym (told t) ∙ not-false _ (c .if1 .left)) (t .take-row .ensures .1),
     )
 
@@ -196,10 +196,10 @@ returns-2 c =
     let e = c .before .before .before in
     let a = e .before .before .before .before .before .before .args in
     let i = e .before .loop .inv in
-    let n : e .before .loop .s ≡ a .slots = omega arith in
+    let n : e .before .loop .s ≡ a .capacity = omega arith in
     let r = rw n at (i .2) in (
-      λ t. sums-hold (a .table .now) (a .period) (a .store .now) (a .from) (a .count) r (sym (compared c) ∙ t),
-      λ b. compared c ∙ sums-pass (a .table .now) (a .period) (a .store .now) (a .from) (a .count) r b,
+      λ t. sums-hold (a .slots .now) (a .period) (a .store .now) (a .from) (a .count) r (sym (compared c) ∙ t),
+      λ b. compared c ∙ sums-pass (a .slots .now) (a .period) (a .store .now) (a .from) (a .count) r b,
     )
 
 pub block-holds-spec : {M : Type 1} → statement M

@@ -11,11 +11,11 @@ use Rattle.records.proofs.stored.blocks_hold.Statement.{statement}
 use Rattle.records.proofs.stored.blocks_hold.Tie as tie
 
 abbrev Inv-loop : tie.InvT-loop
-Inv-loop table slots period store sums found₀ size from₀ found from =
-    (from ≤ period) × (length found ≡ length found₀) × Block table slots period store sums 0 from
+Inv-loop slots C period store sums found₀ size from₀ found from =
+    (from ≤ period) × (length found ≡ length found₀) × Block slots C period store sums 0 from
 
 abbrev μ-loop : tie.MeasureT-loop
-μ-loop table slots period store sums found₀ size from₀ found from = period - from
+μ-loop slots C period store sums found₀ size from₀ found from = period - from
 
 loop-holds : tie.Need-loop-holds Inv-loop μ-loop
 loop-holds c = (omega arith, refl, no-block)

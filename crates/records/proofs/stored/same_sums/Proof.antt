@@ -8,9 +8,9 @@ use mir.Syntax.{w64}
 use mir.Val.{ofZ}
 use Rattle.sums.specs.Lists.{at, every}
 use Rattle.sums.proofs.Bound.{same-bits}
-use Rattle.records.specs.Record.{eqZ}
-use Rattle.records.proofs.Rows.{eqZ-other, every-fails, every-more}
-use Rattle.records.proofs.Tests.{eqZ-same}
+use Rattle.sums.specs.Equal.{eqZ}
+use Rattle.sums.proofs.Equal.{eqZ-other, eqZ-same}
+use Rattle.sums.proofs.Everywhere.{every-fails, every-more}
 use Rattle.records.proofs.stored.same_sums.Statement.{statement}
 use Rattle.records.proofs.stored.same_sums.Tie as tie
 

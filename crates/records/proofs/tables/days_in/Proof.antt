@@ -8,7 +8,7 @@ use lib.Dec.{eqb}
 use lib.ListN.{getD}
 use Rattle.sums.specs.Sum.{total}
 use Rattle.sums.specs.Lists.{many}
-use Rattle.records.proofs.Loops.{many-more, many-most}
+use Rattle.sums.proofs.Everywhere.{many-more, many-most}
 use Rattle.records.proofs.tables.days_in.Statement.{statement}
 use Rattle.records.proofs.tables.days_in.Tie as tie
 

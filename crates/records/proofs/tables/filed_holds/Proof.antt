@@ -16,8 +16,8 @@ false-right : (a : Bool) {b : Bool} → b ≡ false → a && b ≡ false
 false-right true e = e
 false-right false e = refl
 
-cast-slots : tie.Need-cast-slots
-cast-slots c = search needs
+cast-capacity : tie.Need-cast-capacity
+cast-capacity c = search needs
 
 returns : tie.Need-returns
 returns c = simp (lt-leb 1 _ (c .if1 .taken))
@@ -80,7 +80,7 @@ returns-6 c =
     let at3 = at4 .before .before .before in
     let at2 = at3 .before .before .before in
     let k = at2 .before .before .before .before .before .args .c in
-    let room : slotsHold k ≡ true = both-true (le-leb 1 (k .slots) (at2 .before .if1 .left)) (le-leb (k .slots) 64 (at2 .if2 .left)) in
+    let room : slotsHold k ≡ true = both-true (le-leb 1 (k .capacity) (at2 .before .if1 .left)) (le-leb (k .capacity) 64 (at2 .if2 .left)) in
     let states : statesHold k ≡ true = sym (at3 .before .states-hold .ensures ∙ states-hold-is k) ∙ not-false (at3 .before .states-hold .result) (at3 .if3 .left) in
     let past : pastFree k ≡ true = sym (at4 .before .past-free .ensures) ∙ not-false (at4 .before .past-free .result) (at4 .if4 .left) in
     let stand : slotsStand k ≡ true = sym (at5 .before .slots-stand .ensures) ∙ not-false (at5 .before .slots-stand .result) (at5 .if5 .left) in
@@ -90,7 +90,7 @@ pub filed-holds-spec : {M : Type 1} → statement M
 filed-holds-spec =
     tie.close
     (tie.spec
-    cast-slots
+    cast-capacity
     returns
     returns-2
     slice-aggregate-states-hold

@@ -6,21 +6,21 @@ use native.Mathlib.Omega.{arith}
 use borrow.Author.Tests.{eq-eqb, ne-eqb}
 use lib.Dec.{eqb}
 use lib.ListN.{getD}
-use Rattle.records.proofs.Loops.{Ahead, ahead-none, ahead-more, ahead-here, ahead-end}
+use Rattle.sums.proofs.Seek.{Ahead, ahead-none, ahead-more, ahead-here, ahead-end}
 use Rattle.records.proofs.tables.find.Statement.{statement}
 use Rattle.records.proofs.tables.find.Tie as tie
 
 abbrev test : List ℕ → ℕ → ℕ → Bool
-test table day s = eqb (getD table s 0) day
+test slots day s = eqb (getD slots s 0) day
 
 abbrev Inv-loop : tie.InvT-loop
-Inv-loop table slots day s₀ s = (s ≤ slots) × Ahead (test table day) slots s
+Inv-loop slots C day s₀ s = (s ≤ C) × Ahead (test slots day) C s
 
 abbrev μ-loop : tie.MeasureT-loop
-μ-loop table slots day s₀ s = slots - s
+μ-loop slots C day s₀ s = C - s
 
 loop-holds : tie.Need-loop-holds Inv-loop μ-loop
-loop-holds c = (omega arith, ahead-none (test (c .args .table .now) (c .args .day)) (c .args .slots))
+loop-holds c = (omega arith, ahead-none (test (c .args .slots .now) (c .args .day)) (c .args .capacity))
 
 mul-if1 : tie.Need-mul-if1 Inv-loop μ-loop
 mul-if1 c = omega arith
@@ -32,7 +32,7 @@ returns : tie.Need-returns Inv-loop μ-loop
 returns c =
     let args = c .before .before .before .before .args in
     let loop = c .before .before .before .loop in
-    ahead-here (test (args .table .now) (args .day)) (c .before .before .loop-test .taken) (loop .inv .1) (eq-eqb _ _ (c .if1 .taken))
+    ahead-here (test (args .slots .now) (args .day)) (c .before .before .loop-test .taken) (loop .inv .1) (eq-eqb _ _ (c .if1 .taken))
 
 add-s : tie.Need-add-s Inv-loop μ-loop
 add-s c = omega arith
@@ -44,12 +44,12 @@ loop-again : tie.Need-loop-again Inv-loop μ-loop
 loop-again c =
     let args = c .before .before .before .before .args in
     let loop = c .before .before .before .loop in
-    (omega arith, ahead-more (test (args .table .now) (args .day)) (c .before .before .loop-test .taken) (loop .inv .1) (ne-eqb _ _ (c .if1 .left)))
+    (omega arith, ahead-more (test (args .slots .now) (args .day)) (c .before .before .loop-test .taken) (loop .inv .1) (ne-eqb _ _ (c .if1 .left)))
 
 returns-2 : tie.Need-returns-2 Inv-loop μ-loop
 returns-2 c =
     let args = c .before .before .args in
-    ahead-end (test (args .table .now) (args .day)) (c .loop-test .left) (c .before .loop .inv .1)
+    ahead-end (test (args .slots .now) (args .day)) (c .loop-test .left) (c .before .loop .inv .1)
 
 pub find-spec : {M : Type 1} → statement M
 find-spec =

@@ -8,18 +8,18 @@ use borrow.Author.Tests.{not-true, not-false}
 use lib.Dec.{eqb}
 use lib.ListN.{getD}
 use Rattle.sums.specs.Lists.{every, many}
-use Rattle.records.proofs.Rows.{every-more, every-fails}
+use Rattle.sums.proofs.Everywhere.{every-more, every-fails}
 use Rattle.records.proofs.tables.one_slot.Statement.{statement}
 use Rattle.records.proofs.tables.one_slot.Tie as tie
 
 abbrev test : List ℕ → List ℕ → ℕ → ℕ → Bool
-test days table slots i = not (eqb (getD days i 0) 1) || eqb (many slots (λ s. eqb (getD table s 0) (i + 1))) 1
+test days slots C i = not (eqb (getD days i 0) 1) || eqb (many C (λ s. eqb (getD slots s 0) (i + 1))) 1
 
 abbrev Inv-loop : tie.InvT-loop
-Inv-loop days table slots i₀ i = (i ≤ 366) × (every i (test days table slots) ≡ true)
+Inv-loop days slots C i₀ i = (i ≤ 366) × (every i (test days slots C) ≡ true)
 
 abbrev μ-loop : tie.MeasureT-loop
-μ-loop days table slots i₀ i = 366 - i
+μ-loop days slots C i₀ i = 366 - i
 
 loop-holds : tie.Need-loop-holds Inv-loop μ-loop
 unfolding every
@@ -42,7 +42,7 @@ returns c =
     let args = c .before .before .before .before .before .before .before .args in
     let loop = c .before .before .before .before .loop in
     let tested = c .before .idle-or-once in
-    sym (every-fails (test (args .days .now) (args .table .now) (args .slots)) 366 (loop .i) (omega arith) (sym (tested .ensures) ∙ not-true (tested .result) (c .if1 .taken)))
+    sym (every-fails (test (args .days .now) (args .slots .now) (args .capacity)) 366 (loop .i) (omega arith) (sym (tested .ensures) ∙ not-true (tested .result) (c .if1 .taken)))
 
 add-i : tie.Need-add-i Inv-loop μ-loop
 add-i c = omega arith
@@ -55,7 +55,7 @@ loop-again c =
     let args = c .before .before .before .before .before .before .before .args in
     let loop = c .before .before .before .before .loop in
     let tested = c .before .idle-or-once in
-    (omega arith, every-more (test (args .days .now) (args .table .now) (args .slots)) (loop .i) (loop .inv .1) (sym (tested .ensures) ∙ not-false (tested .result) (c .if1 .left)))
+    (omega arith, every-more (test (args .days .now) (args .slots .now) (args .capacity)) (loop .i) (loop .inv .1) (sym (tested .ensures) ∙ not-false (tested .result) (c .if1 .left)))
 
 returns-2 : tie.Need-returns-2 Inv-loop μ-loop
 returns-2 c = let e : c .before .loop .i ≡ 366 = omega arith in sym (rw e at (c .before .loop .inv .1))

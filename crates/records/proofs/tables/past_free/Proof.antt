@@ -8,18 +8,18 @@ use borrow.Author.Tests.{not-true, not-false}
 use lib.Dec.{eqb, ltb}
 use lib.ListN.{getD}
 use Rattle.sums.specs.Lists.{every}
-use Rattle.records.proofs.Rows.{every-more, every-fails}
+use Rattle.sums.proofs.Everywhere.{every-more, every-fails}
 use Rattle.records.proofs.tables.past_free.Statement.{statement}
 use Rattle.records.proofs.tables.past_free.Tie as tie
 
 abbrev test : List ℕ → ℕ → ℕ → Bool
-test table slots s = ltb s slots || eqb (getD table s 0) 0
+test slots C s = ltb s C || eqb (getD slots s 0) 0
 
 abbrev Inv-loop : tie.InvT-loop
-Inv-loop table slots s₀ s = (s ≤ 64) × (every s (test table slots) ≡ true)
+Inv-loop slots C s₀ s = (s ≤ 64) × (every s (test slots C) ≡ true)
 
 abbrev μ-loop : tie.MeasureT-loop
-μ-loop table slots s₀ s = 64 - s
+μ-loop slots C s₀ s = 64 - s
 
 loop-holds : tie.Need-loop-holds Inv-loop μ-loop
 unfolding every
@@ -39,7 +39,7 @@ returns c =
     let args = c .before .before .before .before .before .before .args in
     let loop = c .before .before .before .before .loop in
     let tested = c .before .given-or-free in
-    sym (every-fails (test (args .table .now) (args .slots)) 64 (loop .s) (omega arith) (sym (tested .ensures) ∙ not-true (tested .result) (c .if1 .taken)))
+    sym (every-fails (test (args .slots .now) (args .capacity)) 64 (loop .s) (omega arith) (sym (tested .ensures) ∙ not-true (tested .result) (c .if1 .taken)))
 
 add-s : tie.Need-add-s Inv-loop μ-loop
 add-s c = omega arith
@@ -52,7 +52,7 @@ loop-again c =
     let args = c .before .before .before .before .before .before .args in
     let loop = c .before .before .before .before .loop in
     let tested = c .before .given-or-free in
-    (omega arith, every-more (test (args .table .now) (args .slots)) (loop .s) (loop .inv .1) (sym (tested .ensures) ∙ not-false (tested .result) (c .if1 .left)))
+    (omega arith, every-more (test (args .slots .now) (args .capacity)) (loop .s) (loop .inv .1) (sym (tested .ensures) ∙ not-false (tested .result) (c .if1 .left)))
 
 returns-2 : tie.Need-returns-2 Inv-loop μ-loop
 returns-2 c = let e : c .before .loop .s ≡ 64 = omega arith in sym (rw e at (c .before .loop .inv .1))

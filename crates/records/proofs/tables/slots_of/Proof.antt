@@ -8,18 +8,18 @@ use lib.Dec.{eqb}
 use lib.ListN.{getD}
 use Rattle.sums.specs.Sum.{total}
 use Rattle.sums.specs.Lists.{many}
-use Rattle.records.proofs.Loops.{many-more, many-most}
+use Rattle.sums.proofs.Everywhere.{many-more, many-most}
 use Rattle.records.proofs.tables.slots_of.Statement.{statement}
 use Rattle.records.proofs.tables.slots_of.Tie as tie
 
 abbrev test : List ℕ → ℕ → ℕ → Bool
-test table day s = eqb (getD table s 0) day
+test slots day s = eqb (getD slots s 0) day
 
 abbrev Inv-loop : tie.InvT-loop
-Inv-loop table slots day n₀ s₀ n s = (s ≤ slots) × (n ≡ many s (test table day))
+Inv-loop slots C day n₀ s₀ n s = (s ≤ C) × (n ≡ many s (test slots day))
 
 abbrev μ-loop : tie.MeasureT-loop
-μ-loop table slots day n₀ s₀ n s = slots - s
+μ-loop slots C day n₀ s₀ n s = C - s
 
 loop-holds : tie.Need-loop-holds Inv-loop μ-loop
 unfolding many total
@@ -40,8 +40,8 @@ add-n c =
     let loop = c .before .before .before .loop in
     omega (
       arith,
-      many-more (test (args .table .now) (args .day)) (loop .s) (loop .inv .1) (c .hit .ensures),
-      many-most (test (args .table .now) (args .day)) (loop .s + 1),
+      many-more (test (args .slots .now) (args .day)) (loop .s) (loop .inv .1) (c .hit .ensures),
+      many-most (test (args .slots .now) (args .day)) (loop .s + 1),
     )
 
 add-s : tie.Need-add-s Inv-loop μ-loop
@@ -54,10 +54,10 @@ loop-again : tie.Need-loop-again Inv-loop μ-loop
 loop-again c =
     let args = c .before .before .before .before .before .args in
     let loop = c .before .before .before .loop in
-    (omega arith, many-more (test (args .table .now) (args .day)) (loop .s) (loop .inv .1) (c .hit .ensures))
+    (omega arith, many-more (test (args .slots .now) (args .day)) (loop .s) (loop .inv .1) (c .hit .ensures))
 
 returns : tie.Need-returns Inv-loop μ-loop
-returns c = let e : c .before .loop .s ≡ c .before .before .before .args .slots = omega arith in rw e at (c .before .loop .inv .1)
+returns c = let e : c .before .loop .s ≡ c .before .before .before .args .capacity = omega arith in rw e at (c .before .loop .inv .1)
 
 pub slots-of-spec : {M : Type 1} → statement M
 slots-of-spec =

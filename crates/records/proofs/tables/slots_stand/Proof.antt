@@ -8,18 +8,18 @@ use borrow.Author.Tests.{not-true, not-false}
 use lib.Dec.{eqb, leb}
 use lib.ListN.{getD}
 use Rattle.sums.specs.Lists.{every}
-use Rattle.records.proofs.Rows.{every-more, every-fails}
+use Rattle.sums.proofs.Everywhere.{every-more, every-fails}
 use Rattle.records.proofs.tables.slots_stand.Statement.{statement}
 use Rattle.records.proofs.tables.slots_stand.Tie as tie
 
 abbrev test : List ℕ → List ℕ → ℕ → Bool
-test days table s = eqb (getD table s 0) 0 || (leb (getD table s 0) 366 && eqb (getD days (getD table s 0 - 1) 0) 1)
+test days slots s = eqb (getD slots s 0) 0 || (leb (getD slots s 0) 366 && eqb (getD days (getD slots s 0 - 1) 0) 1)
 
 abbrev Inv-loop : tie.InvT-loop
-Inv-loop days table slots s₀ s = (s ≤ slots) × (every s (test days table) ≡ true)
+Inv-loop days slots C s₀ s = (s ≤ C) × (every s (test days slots) ≡ true)
 
 abbrev μ-loop : tie.MeasureT-loop
-μ-loop days table slots s₀ s = slots - s
+μ-loop days slots C s₀ s = C - s
 
 loop-holds : tie.Need-loop-holds Inv-loop μ-loop
 unfolding every
@@ -39,7 +39,7 @@ returns c =
     let args = c .before .before .before .before .before .before .before .args in
     let loop = c .before .before .before .before .loop in
     let tested = c .before .free-or-stands in
-    sym (every-fails (test (args .days .now) (args .table .now)) (args .slots) (loop .s) (omega arith) (sym (tested .ensures) ∙ not-true (tested .result) (c .if1 .taken)))
+    sym (every-fails (test (args .days .now) (args .slots .now)) (args .capacity) (loop .s) (omega arith) (sym (tested .ensures) ∙ not-true (tested .result) (c .if1 .taken)))
 
 add-s : tie.Need-add-s Inv-loop μ-loop
 add-s c = omega arith
@@ -52,10 +52,10 @@ loop-again c =
     let args = c .before .before .before .before .before .before .before .args in
     let loop = c .before .before .before .before .loop in
     let tested = c .before .free-or-stands in
-    (omega arith, every-more (test (args .days .now) (args .table .now)) (loop .s) (loop .inv .1) (sym (tested .ensures) ∙ not-false (tested .result) (c .if1 .left)))
+    (omega arith, every-more (test (args .days .now) (args .slots .now)) (loop .s) (loop .inv .1) (sym (tested .ensures) ∙ not-false (tested .result) (c .if1 .left)))
 
 returns-2 : tie.Need-returns-2 Inv-loop μ-loop
-returns-2 c = let e : c .before .loop .s ≡ c .before .before .before .before .args .slots = omega arith in sym (rw e at (c .before .loop .inv .1))
+returns-2 c = let e : c .before .loop .s ≡ c .before .before .before .before .args .capacity = omega arith in sym (rw e at (c .before .loop .inv .1))
 
 pub slots-stand-spec : {M : Type 1} → statement M
 slots-stand-spec =

@@ -8,7 +8,7 @@ use borrow.Author.Tests.{le-leb, lt-leb}
 use lib.Dec.{leb}
 use lib.ListN.{getD}
 use Rattle.sums.specs.Lists.{every}
-use Rattle.records.proofs.Rows.{every-more, every-fails}
+use Rattle.sums.proofs.Everywhere.{every-more, every-fails}
 use Rattle.records.proofs.tables.states_hold.Statement.{statement}
 use Rattle.records.proofs.tables.states_hold.Tie as tie
 

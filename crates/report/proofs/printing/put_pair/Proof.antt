@@ -15,7 +15,11 @@ same-length : tie.Need-same-length
 same-length c = search needs
 
 returns : tie.Need-returns
-returns c = (wrote-more (c .before .before .before .before .before .before .put-spaced .ensures .0) (c .before .before .put-spaced2 .ensures .0), omega (arith, c .before .before .before .before .before .before .put-spaced .ensures .1, c .before .before .put-spaced2 .ensures .1))
+returns c =
+    let b = c .before .before in
+    let v = b .before .before .before .before .put-spaced .ensures in
+    let w = b .put-spaced2 .ensures in
+    (wrote-more (v .0) (w .0), omega (arith, v .1, w .1))
 
 pub put-pair-spec : {M : Type 1} → statement M
 put-pair-spec = tie.close (tie.spec put-spaced-requires put-spaced-requires-2 same-length returns)

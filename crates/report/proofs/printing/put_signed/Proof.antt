@@ -16,7 +16,8 @@ use Rattle.report.proofs.printing.put_signed.Tie as tie
 
 -- by the sign
 module _ (z : ℤ) {at : ℕ} {l : List ℕ} where
-  minus : ltZ z (pos 0) ≡ true → {k n : ℕ} {s t : List ℕ} → Wrote (45 ∷ []) at l k s → Wrote (decimal (natAbs z)) k s n t → Wrote (decimalZ z) at l n t
+  minus : ltZ z (pos 0) ≡ true → {k n : ℕ} {s t : List ℕ} → Wrote (45 ∷ []) at l k s → Wrote (decimal (natAbs z)) k s n t
+      → Wrote (decimalZ z) at l n t
   minus h v w = simp h (wrote-more v w)
 
   plain : ltZ z (pos 0) ≡ false → {n : ℕ} {t : List ℕ} → Wrote (decimal (natAbs z)) at l n t → Wrote (decimalZ z) at l n t
@@ -39,9 +40,14 @@ same-length c = search needs
 
 returns : tie.Need-returns
 returns c =
-    let a = c .before .before .before .before .before .before .before .before .before .before .before .args in
-    let n = c .before .before .put-number .ensures in
-    (minus (a .z) (rw (toZ-ofZ w64 (a .z) (c .before .before .before .before .before .before .before .before .before .before .before .fits .z)) at (c .before .before .before .before .before .before .before .before .before .if1 .taken)) (c .before .before .before .before .before .before .before .put-byte .ensures) (rw (read (c .before .before .before .before)) at (n .0)), omega (arith, c .before .before .before .before .before .before .before .put-byte .ensures .size, n .1))
+    let n = c .before .before in
+    let z = n .before .before in
+    let b = z .before .before .before in
+    let t = b .before .before in
+    let s = t .before .before in
+    let v = b .put-byte .ensures in
+    let negative = rw (toZ-ofZ w64 (s .args .z) (s .fits .z)) at (t .if1 .taken) in
+    (minus (s .args .z) negative v (rw (read z) at (n .put-number .ensures .0)), omega (arith, v .size, n .put-number .ensures .1))
 
 size-requires-2 : tie.Need-size-requires-2
 size-requires-2 c κs = search needs
@@ -57,9 +63,12 @@ same-length-2 c = search needs
 
 returns-2 : tie.Need-returns-2
 returns-2 c =
-    let a = c .before .before .before .before .before .before .before .args in
-    let n = c .before .before .put-number2 .ensures in
-    (plain (a .z) (rw (toZ-ofZ w64 (a .z) (c .before .before .before .before .before .before .before .fits .z)) at (c .before .before .before .before .before .if1 .left)) (rw (read-2 (c .before .before .before .before)) at (n .0)), omega (arith, n .1))
+    let n = c .before .before in
+    let z = n .before .before in
+    let t = z .before in
+    let s = t .before .before in
+    let positive = rw (toZ-ofZ w64 (s .args .z) (s .fits .z)) at (t .if1 .left) in
+    (plain (s .args .z) positive (rw (read-2 z) at (n .put-number2 .ensures .0)), omega (arith, n .put-number2 .ensures .1))
 
 pub put-signed-spec : {M : Type 1} → statement M
 put-signed-spec =

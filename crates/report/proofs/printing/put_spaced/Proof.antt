@@ -15,7 +15,11 @@ same-length : tie.Need-same-length
 same-length c = search needs
 
 returns : tie.Need-returns
-returns c = (wrote-more (c .before .before .before .before .before .before .put-byte .ensures) (c .before .before .put-number .ensures .0), omega (arith, c .before .before .before .before .before .before .put-byte .ensures .size, c .before .before .put-number .ensures .1))
+returns c =
+    let b = c .before .before in
+    let v = b .before .before .before .before .put-byte .ensures in
+    let w = b .put-number .ensures in
+    (wrote-more v (w .0), omega (arith, v .size, w .1))
 
 pub put-spaced-spec : {M : Type 1} → statement M
 put-spaced-spec = tie.close (tie.spec put-byte-requires put-number-requires same-length returns)

@@ -44,25 +44,33 @@ same-length : tie.Need-same-length
 same-length c = search needs
 
 returns : tie.Need-returns
-returns c = let w = c .before .before .put-word in rw (c .before .before .before .before .before .enum-told .given .1) (w .ensures, omega (arith, w .ensures .size))
+returns c =
+    let w = c .before .before in
+    rw (w .before .before .before .enum-told .given .1) (w .put-word .ensures, omega (arith, w .put-word .ensures .size))
 
 same-length-2 : tie.Need-same-length-2
 same-length-2 c = search needs
 
 returns-2 : tie.Need-returns-2
-returns-2 c = let w = c .before .before .put-word2 in rw (c .before .before .before .before .before .enum-told2 .given .1) (w .ensures, omega (arith, w .ensures .size))
+returns-2 c =
+    let w = c .before .before in
+    rw (w .before .before .before .enum-told2 .given .1) (w .put-word2 .ensures, omega (arith, w .put-word2 .ensures .size))
 
 same-length-3 : tie.Need-same-length-3
 same-length-3 c = search needs
 
 returns-3 : tie.Need-returns-3
-returns-3 c = let w = c .before .before .put-word3 in rw (c .before .before .before .before .before .enum-told3 .given .1) (w .ensures, omega (arith, w .ensures .size))
+returns-3 c =
+    let w = c .before .before in
+    rw (w .before .before .before .enum-told3 .given .1) (w .put-word3 .ensures, omega (arith, w .put-word3 .ensures .size))
 
 same-length-4 : tie.Need-same-length-4
 same-length-4 c = search needs
 
 returns-4 : tie.Need-returns-4
-returns-4 c = let w = c .before .before .put-word4 in rw (c .before .before .before .before .before .enum-told4 .given .1) (w .ensures, omega (arith, w .ensures .size))
+returns-4 c =
+    let w = c .before .before in
+    rw (w .before .before .before .enum-told4 .given .1) (w .put-word4 .ensures, omega (arith, w .put-word4 .ensures .size))
 
 pub put-verdict-spec : {M : Type 1} → statement M
 put-verdict-spec =

@@ -17,7 +17,8 @@ returns : tie.Need-returns
 returns c =
     let a = c .before .before .before in
     let w = c .before .write-row .ensures in
-    (rw (toZ-ofZ w64 (a .args .r) (a .fits .r), toZ-ofZ w64 (a .args .mean) (a .fits .mean)) at (w .is), omega (arith, wrote-inside w, c .before .write-row .kept .1 .1 .1 .0))
+    let is = rw (toZ-ofZ w64 (a .args .r) (a .fits .r), toZ-ofZ w64 (a .args .mean) (a .fits .mean)) at (w .is) in
+    (is, omega (arith, wrote-inside w, c .before .write-row .kept .1 .1 .1 .0))
 
 pub row-text-spec : {M : Type 1} → statement M
 row-text-spec = tie.close (tie.spec slice-aggregate-write-row write-row-requires returns)

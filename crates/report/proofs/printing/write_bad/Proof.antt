@@ -1,6 +1,6 @@
 -- `report::printing::write_bad` meets its contract. Assumes nothing.
 use borrow.Author.Needs.{needs}
-use Rattle.report.proofs.Writing.{wrote-more}
+use Rattle.report.proofs.Writing.{wrote-three}
 use Rattle.report.proofs.printing.write_bad.Statement.{statement}
 use Rattle.report.proofs.printing.write_bad.Tie as tie
 
@@ -20,7 +20,10 @@ same-length : tie.Need-same-length
 same-length c = search needs
 
 returns : tie.Need-returns
-returns c = wrote-more (wrote-more (c .before .before .before .before .before .before .before .before .before .before .put-word .ensures) (c .before .before .before .before .before .before .put-spaced .ensures .0)) (c .before .before .put-byte .ensures)
+returns c =
+    let e = c .before .before in
+    let n = e .before .before .before .before in
+    wrote-three (n .before .before .before .before .put-word .ensures) (n .put-spaced .ensures .0) (e .put-byte .ensures)
 
 pub write-bad-spec : {M : Type 1} → statement M
 write-bad-spec =

@@ -1,6 +1,6 @@
 -- `report::printing::write_enter` meets its contract. Assumes nothing.
 use borrow.Author.Needs.{needs}
-use Rattle.report.proofs.Writing.{wrote-more}
+use Rattle.report.proofs.Writing.{wrote-three}
 use Rattle.report.proofs.printing.write_enter.Statement.{statement}
 use Rattle.report.proofs.printing.write_enter.Tie as tie
 
@@ -36,8 +36,14 @@ same-length c = search needs
 
 returns : tie.Need-returns
 returns c =
-    wrote-more (wrote-more (wrote-more (wrote-more (c .before .before .before .before .before .before .before .before .before .before .before .before .before .before .before .before .before .before .before .before .put-word .ensures) (c .before .before .before .before .before .before .before .before .before .before .before .before .before .before .before .put-spaced .ensures .0))
-    (rw (c .before .before .before .before .before .before .before .before .before .before .before .before .number-of .ensures) at (c .before .before .before .before .before .before .before .before .before .before .put-spaced2 .ensures .0))) (c .before .before .before .before .before .before .put-verdict .ensures .0)) (c .before .before .put-byte .ensures)
+    let e = c .before .before in
+    let v = e .before .before .before .before in
+    let n = v .before .before .before .before in
+    let k = n .before .before in
+    let d = k .before .before .before in
+    let answer = rw (k .number-of .ensures) at (n .put-spaced2 .ensures .0) in
+    let word = d .before .before .before .before .before in
+    wrote-three (wrote-three (word .put-word .ensures) (d .put-spaced .ensures .0) answer) (v .put-verdict .ensures .0) (e .put-byte .ensures)
 
 pub write-enter-spec : {M : Type 1} → statement M
 write-enter-spec =

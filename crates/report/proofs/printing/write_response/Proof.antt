@@ -28,10 +28,15 @@ same-length c = search needs
 
 returns : tie.Need-returns
 returns c =
-    let t = c .before .before .before .before .before .before .before .before .before .before .before .before .before .before .before .before .before .before .before .before .before .before .args .tally in
-    wrote-more (wrote-two (spaced (t .dead)) (spaced (t .withdrawn)) (wrote-two (spaced (t .standing)) (spaced (t .overloaded))
-    (wrote-more (c .before .before .before .before .before .before .before .before .before .before .before .before .before .before .before .before .before .before .put-word .ensures) (c .before .before .before .before .before .before .before .before .before .before .before .before .before .before .put-spaced .ensures .0)) (c .before .before .before .before .before .before .before .before .before .before .put-pair .ensures .0))
-    (c .before .before .before .before .before .before .put-pair2 .ensures .0)) (c .before .before .put-byte .ensures)
+    let e = c .before .before in
+    let lost = e .before .before .before .before in
+    let kept = lost .before .before .before .before in
+    let n = kept .before .before .before .before in
+    let word = n .before .before .before .before in
+    let t = word .before .before .before .before .args .tally in
+    let first = wrote-more (word .put-word .ensures) (n .put-spaced .ensures .0) in
+    let second = wrote-two (spaced (t .standing)) (spaced (t .overloaded)) first (kept .put-pair .ensures .0) in
+    wrote-more (wrote-two (spaced (t .dead)) (spaced (t .withdrawn)) second (lost .put-pair2 .ensures .0)) (e .put-byte .ensures)
 
 pub write-response-spec : {M : Type 1} → statement M
 write-response-spec =

@@ -2,7 +2,7 @@
 use borrow.Author.Needs.{needs}
 use mir.Syntax.{w64}
 use mir.ValLaws.{toZ-ofZ}
-use Rattle.report.proofs.Writing.{wrote-more}
+use Rattle.report.proofs.Writing.{wrote-more, wrote-three}
 use Rattle.report.proofs.printing.write_row.Statement.{statement}
 use Rattle.report.proofs.printing.write_row.Tie as tie
 
@@ -29,10 +29,16 @@ same-length c = search needs
 
 returns : tie.Need-returns
 returns c =
-    let a = c .before .before .before .before .before .before .before .before .before .before .before .before .before .before .before .before .before .before .before .before .before .before .before .before .before in
-    wrote-more (wrote-more (wrote-more (wrote-more (wrote-more (c .before .before .before .before .before .before .before .before .before .before .before .before .before .before .before .before .before .before .before .before .before .before .put-number .ensures .0) (c .before .before .before .before .before .before .before .before .before .before .before .before .before .before .before .before .before .before .put-byte .ensures))
-    (rw (toZ-ofZ w64 (a .args .r) (a .fits .r)) at (c .before .before .before .before .before .before .before .before .before .before .before .before .before .before .put-signed .ensures .0)))
-    (c .before .before .before .before .before .before .before .before .before .before .put-byte2 .ensures)) (rw (toZ-ofZ w64 (a .args .mean) (a .fits .mean)) at (c .before .before .before .before .before .before .put-signed2 .ensures .0))) (c .before .before .put-byte3 .ensures)
+    let e = c .before .before in
+    let m = e .before .before .before .before in
+    let gap = m .before .before .before .before in
+    let r = gap .before .before .before .before in
+    let space = r .before .before .before .before in
+    let k = space .before .before .before .before in
+    let a = k .before .before .before in
+    let rs = rw (toZ-ofZ w64 (a .args .r) (a .fits .r)) at (r .put-signed .ensures .0) in
+    let means = rw (toZ-ofZ w64 (a .args .mean) (a .fits .mean)) at (m .put-signed2 .ensures .0) in
+    wrote-three (wrote-more (wrote-three (k .put-number .ensures .0) (space .put-byte .ensures) rs) (gap .put-byte2 .ensures)) means (e .put-byte3 .ensures)
 
 pub write-row-spec : {M : Type 1} → statement M
 write-row-spec =

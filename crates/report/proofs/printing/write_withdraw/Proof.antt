@@ -1,6 +1,6 @@
 -- `report::printing::write_withdraw` meets its contract. Assumes nothing.
 use borrow.Author.Needs.{needs}
-use Rattle.report.proofs.Writing.{wrote-more}
+use Rattle.report.proofs.Writing.{wrote-more, wrote-three}
 use Rattle.report.proofs.printing.write_withdraw.Statement.{statement}
 use Rattle.report.proofs.printing.write_withdraw.Tie as tie
 
@@ -23,7 +23,12 @@ same-length : tie.Need-same-length
 same-length c = search needs
 
 returns : tie.Need-returns
-returns c = wrote-more (wrote-more (wrote-more (c .before .before .before .before .before .before .before .before .before .before .before .before .before .before .put-word .ensures) (c .before .before .before .before .before .before .before .before .before .before .put-spaced .ensures .0)) (c .before .before .before .before .before .before .put-spaced2 .ensures .0)) (c .before .before .put-byte .ensures)
+returns c =
+    let e = c .before .before in
+    let n = e .before .before .before .before in
+    let d = n .before .before .before .before in
+    let word = d .before .before .before .before in
+    wrote-more (wrote-three (word .put-word .ensures) (d .put-spaced .ensures .0) (n .put-spaced2 .ensures .0)) (e .put-byte .ensures)
 
 pub write-withdraw-spec : {M : Type 1} → statement M
 write-withdraw-spec =

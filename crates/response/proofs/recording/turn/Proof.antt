@@ -7,7 +7,7 @@ use Rattle.sums.specs.Lists.{at}
 use Rattle.register.specs.Register.{P}
 use Rattle.register.proofs.Word.{small}
 use Rattle.response.proofs.FastRoute.{windows-walk, loud}
-use Rattle.response.proofs.Samples.{quiet}
+use Rattle.samples.proofs.Sizes.{quiet}
 use Rattle.response.proofs.recording.turn.Statement.{statement}
 use Rattle.response.proofs.recording.turn.Tie as tie
 

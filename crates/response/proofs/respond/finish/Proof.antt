@@ -7,7 +7,7 @@ use lib.ListN.{length}
 use Rattle.sums.specs.Lists.{put}
 use Rattle.sums.proofs.Tables.{table-ext}
 use Rattle.register.specs.Register.{P}
-use Rattle.response.specs.Calls.{clearedWide}
+use Rattle.samples.specs.Samples.{clearedWide}
 use Rattle.response.specs.Route.{spectrum}
 use Rattle.response.proofs.Clearing.{cleared-again}
 use Rattle.response.proofs.FastRoute.{route}

@@ -10,7 +10,7 @@ use mir.ValLaws.{toZ-ofZ}
 use Rattle.sums.proofs.Bound.{read}
 use Rattle.rounding.specs.Rounding.{nearest, rounded}
 use Rattle.rounding.specs.Halving.{withSign}
-use Rattle.response.proofs.Samples.{sample-size}
+use Rattle.samples.proofs.Sizes.{sample-size}
 use Rattle.rounding.proofs.Signs.{rounded-signed, rounded-size}
 use Rattle.rounding.proofs.means.mean_as.Statement.{statement}
 use Rattle.rounding.proofs.means.mean_as.Tie as tie

@@ -9,7 +9,7 @@ use Rattle.sums.specs.Lists.{at}
 use Rattle.sums.proofs.Bound.{read}
 use Rattle.sums.proofs.Tables.{Written, written-none, written-more, written-length}
 use Rattle.rounding.specs.Rounding.{rounded}
-use Rattle.response.proofs.Samples.{sample-fits}
+use Rattle.samples.proofs.Sizes.{sample-fits}
 use Rattle.rounding.proofs.means.write_each.Statement.{statement}
 use Rattle.rounding.proofs.means.write_each.Tie as tie
 

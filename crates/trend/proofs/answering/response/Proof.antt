@@ -10,7 +10,7 @@ use Rattle.sums.specs.Refusals.{first}
 use Rattle.sums.proofs.First.{refused-with, accepted-with}
 use Rattle.sums.proofs.Tables.{at-put, table-ext}
 use Rattle.register.specs.Register.{P}
-use Rattle.response.specs.Calls.{sampleOut, clearedWide, clearedTags}
+use Rattle.samples.specs.Samples.{sampleOut, clearedWide, clearedTags}
 use Rattle.rounding.specs.Rounding.{rounded}
 use Rattle.records.specs.Record.{standing}
 use Rattle.records.specs.declared.Campaign.{Campaign}
@@ -68,8 +68,8 @@ cast-divisor c = search needs
 mul-divisor : tie.Need-mul-divisor
 mul-divisor c = record { fits = omega (arith, divisor-is c, divisor-small _ (ready (c .before .before .before .before) .whole .filed)) }
 
-turn-wide-requires : tie.Need-turn-wide-requires
-turn-wide-requires c κs =
+turn-sums-requires : tie.Need-turn-sums-requires
+turn-sums-requires c κs =
     let a = c .before .before .before .before .before .before .before .before .before .before .args in
     let r = ready (c .before .before .before .before .before .before .before) in (
       (r .whole .filed .accepted, sum-small (a .c) (a .store .now) (a .sums .now) (r .whole)),
@@ -77,10 +77,10 @@ turn-wide-requires c κs =
     )
 
 -- what was worked
-turned : (c : tie.After-turn-wide) (k : ℕ) → let a = c .before .before .before .before .before .before .before .before .before .before .before .args in k < P (a .c .order) → at (c .turn-wide .last .1 .1 .1 .0) k ≡ worked (a .c) (a .sums .now) k
+turned : (c : tie.After-turn-sums) (k : ℕ) → let a = c .before .before .before .before .before .before .before .before .before .before .before .args in k < P (a .c .order) → at (c .turn-sums .last .1 .1 .1 .0) k ≡ worked (a .c) (a .sums .now) k
 turned c k l =
     let a = c .before .before .before .before .before .before .before .before .before .before .before .args in
-    ap (λ v. at v k) (c .turn-wide .ensures .0) ∙ at-put (P (a .c .order)) (worked (a .c) (a .sums .now)) (a .r .now) k (pos 0) l
+    ap (λ v. at v k) (c .turn-sums .ensures .0) ∙ at-put (P (a .c .order)) (worked (a .c) (a .sums .now)) (a .r .now) k (pos 0) l
 
 write-means-requires : tie.Need-write-means-requires
 write-means-requires c κs =
@@ -89,7 +89,7 @@ write-means-requires c κs =
     let r = ready (c .before .before .before .before .before .before .before .before .before .before .before .before .before .before) in
     let p = c .before .before .before .before .before .before .before .before .before .before .before .before .full-period .ensures in
     let d = divisor-is (c .before .before .before .before .before .before .before .before .before .before) in (
-      (omega (arith, p, t .turn-wide .kept .1 .1 .1 .0, r .r-long), omega (arith, p, r .mean-long), omega (arith, d, divisor-some (a .c) (r .some))),
+      (omega (arith, p, t .turn-sums .kept .1 .1 .1 .0, r .r-long), omega (arith, p, r .mean-long), omega (arith, d, divisor-some (a .c) (r .some))),
       λ k l.
           ap₂ (λ z n. sampleOut (rounded z n)) (turned t k (omega (arith, p))) d ∙ mean-fits (a .c) (a .store .now) (a .sums .now) (r .whole) (r .some) k,
     )
@@ -114,7 +114,7 @@ mean-is c =
     let a = c .before .before .before .before .before .before .before .before .before .before .before .before .before .before .before .before .before .before .args in
     c .write-means .ensures
     ∙ ap (λ v. put v (a .mean .now))
-    (ap (λ m. table m (λ k. rounded (at (t .turn-wide .last .1 .1 .1 .0) k) ((p .result + 1) * n .days-in .result))) (p .ensures)
+    (ap (λ m. table m (λ k. rounded (at (t .turn-sums .last .1 .1 .1 .0) k) ((p .result + 1) * n .days-in .result))) (p .ensures)
     ∙ table-ext (P (a .c .order)) (λ k l. ap₂ rounded (turned t k l) (divisor-is n)))
 
 returns-2 : tie.Need-returns-2
@@ -122,7 +122,7 @@ returns-2 c =
     let t = c .before .before .before .before .before .before .before .before in
     let w = c .before .before .before .before .before .before .before .before .before .before .before .before .before .before .before .before in
     let a = w .before .before .before .args in
-    let e = t .turn-wide .ensures in
+    let e = t .turn-sums .ensures in
     accepted (a .c) (a .store .now) (a .sums .now) (a .r .now) (a .mean .now) (a .room .now) (a .tags .now) _ (w .before .response-refusal .ensures) (w .if1 .left) (e .0) (mean-is (c .before)) (e .1) (e .2)
 
 pub response-spec : {M : Type 1} → statement M
@@ -138,7 +138,7 @@ response-spec =
     days-in-requires
     cast-divisor
     mul-divisor
-    turn-wide-requires
+    turn-sums-requires
     write-means-requires
     same-length
     same-length-2

@@ -8,7 +8,7 @@ use borrow.Author.Tests.{not-true, not-false, eq-eqb, ne-eqb}
 use lib.Dec.{ltb}
 use Rattle.register.specs.Register.{P}
 use Rattle.register.proofs.Word.{small}
-use Rattle.response.specs.Calls.{workShort}
+use Rattle.samples.specs.Samples.{workShort}
 use Rattle.records.specs.Record.{standing, daysIn, together}
 use Rattle.records.proofs.Holding.{holds-together}
 use Rattle.records.proofs.Loops.{days-in-is}

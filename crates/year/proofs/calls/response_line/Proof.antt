@@ -1,76 +1,54 @@
 -- `year::calls::response_line` meets its contract. Assumes nothing.
-use mathlib.Core.Path.{sym}
-use native.Mathlib.Omega.{arith}
 use borrow.Author.Needs.{needs}
-use lib.Seq.{length-take-le}
+use Rattle.year.proofs.Sizes.{sizes}
+use Rattle.year.proofs.Fronts.{Front, front}
 use Rattle.year.proofs.calls.response_line.Statement.{statement}
 use Rattle.year.proofs.calls.response_line.Tie as tie
 
-slice-relend-prefix-response : tie.Need-slice-relend-prefix-response
-slice-relend-prefix-response c = search needs
+values : (c : tie.Start) → Front (c .args .held .r) (c .args .values)
+values c = front _ (sizes (c .args .held) _ (c .good .0) .r) (c .pre .values-fit)
+
+means : (c : tie.Start) → Front (c .args .held .mean) (c .args .means)
+means c = front _ (sizes (c .args .held) _ (c .good .0) .mean) (c .pre .means-fit)
+
+wide : (c : tie.Start) → Front (c .args .held .room) (c .args .wide)
+wide c = front _ (sizes (c .args .held) _ (c .good .0) .room) (c .pre .wide-fit)
+
+tagged : (c : tie.Start) → Front (c .args .held .tags) (c .args .tagged)
+tagged c = front _ (sizes (c .args .held) _ (c .good .0) .tags) (c .pre .tags-fit)
 
 slice-aggregate-response : tie.Need-slice-aggregate-response
-slice-aggregate-response c = sym (length-take-le _ _ (omega arith))
+slice-aggregate-response c = search needs
 
-slice-relend-prefix-response-2 : tie.Need-slice-relend-prefix-response-2
-slice-relend-prefix-response-2 c = search needs
+array-borrow-prefix-r : tie.Need-array-borrow-prefix-r
+array-borrow-prefix-r c = values (c .before .before .before .before .before .before .before .before) .fits
 
 slice-aggregate-response-2 : tie.Need-slice-aggregate-response-2
-slice-aggregate-response-2 c = sym (length-take-le _ _ (omega arith))
+slice-aggregate-response-2 c = values (c .before .before .before .before .before .before .before .before .before) .long
 
-slice-relend-prefix-response-3 : tie.Need-slice-relend-prefix-response-3
-slice-relend-prefix-response-3 c = search needs
+array-borrow-prefix-mean : tie.Need-array-borrow-prefix-mean
+array-borrow-prefix-mean c = means (c .before .before .before .before .before .before .before .before .before) .fits
 
 slice-aggregate-response-3 : tie.Need-slice-aggregate-response-3
-slice-aggregate-response-3 c = sym (length-take-le _ _ (omega arith))
+slice-aggregate-response-3 c = means (c .before .before .before .before .before .before .before .before .before .before) .long
 
-slice-relend-prefix-response-4 : tie.Need-slice-relend-prefix-response-4
-slice-relend-prefix-response-4 c = search needs
+array-borrow-prefix-room : tie.Need-array-borrow-prefix-room
+array-borrow-prefix-room c = wide (c .before .before .before .before .before .before .before .before .before .before) .fits
 
 slice-aggregate-response-4 : tie.Need-slice-aggregate-response-4
-slice-aggregate-response-4 c = sym (length-take-le _ _ (omega arith))
+slice-aggregate-response-4 c = wide (c .before .before .before .before .before .before .before .before .before .before .before) .long
+
+array-borrow-prefix-tags : tie.Need-array-borrow-prefix-tags
+array-borrow-prefix-tags c = tagged (c .before .before .before .before .before .before .before .before .before .before .before) .fits
+
+slice-aggregate-response-5 : tie.Need-slice-aggregate-response-5
+slice-aggregate-response-5 c = tagged (c .before .before .before .before .before .before .before .before .before .before .before .before) .long
 
 response-requires : tie.Need-response-requires
 response-requires c κs = search needs
 
-slice-aggregate-word : tie.Need-slice-aggregate-word
-slice-aggregate-word c = search needs
-
-word-requires : tie.Need-word-requires
-word-requires c κs = search needs
-
-cast-number : tie.Need-cast-number
-cast-number c = search needs
-
-number-requires : tie.Need-number-requires
-number-requires c κs = search needs
-
-digest-wide-requires : tie.Need-digest-wide-requires
-digest-wide-requires c κs = search needs
-
-number-requires-2 : tie.Need-number-requires-2
-number-requires-2 c κs = search needs
-
-digest-samples-requires : tie.Need-digest-samples-requires
-digest-samples-requires c κs = search needs
-
-number-requires-3 : tie.Need-number-requires-3
-number-requires-3 c κs = search needs
-
-rooms-requires : tie.Need-rooms-requires
-rooms-requires c κs = search needs
-
-same-length : tie.Need-same-length
-same-length c = search needs
-
-same-length-2 : tie.Need-same-length-2
-same-length-2 c = search needs
-
-same-length-3 : tie.Need-same-length-3
-same-length-3 c = search needs
-
-same-length-4 : tie.Need-same-length-4
-same-length-4 c = search needs
+response-words-requires : tie.Need-response-words-requires
+response-words-requires c κs = search needs
 
 returns : tie.Need-returns
 returns c = search needs
@@ -79,26 +57,15 @@ pub response-line-spec : {M : Type 1} → statement M
 response-line-spec =
     tie.close
     (tie.spec
-    slice-relend-prefix-response
     slice-aggregate-response
-    slice-relend-prefix-response-2
+    array-borrow-prefix-r
     slice-aggregate-response-2
-    slice-relend-prefix-response-3
+    array-borrow-prefix-mean
     slice-aggregate-response-3
-    slice-relend-prefix-response-4
+    array-borrow-prefix-room
     slice-aggregate-response-4
+    array-borrow-prefix-tags
+    slice-aggregate-response-5
     response-requires
-    slice-aggregate-word
-    word-requires
-    cast-number
-    number-requires
-    digest-wide-requires
-    number-requires-2
-    digest-samples-requires
-    number-requires-3
-    rooms-requires
-    same-length
-    same-length-2
-    same-length-3
-    same-length-4
+    response-words-requires
     returns)

@@ -1,43 +1,39 @@
 -- `year::calls::summary_line` meets its contract. Assumes nothing.
-use mathlib.Core.Path.{sym}
-use native.Mathlib.Omega.{arith}
 use borrow.Author.Needs.{needs}
-use lib.Seq.{length-take-le}
+use Rattle.year.proofs.Sizes.{sizes}
+use Rattle.year.proofs.Fronts.{Front, front}
 use Rattle.year.proofs.calls.summary_line.Statement.{statement}
 use Rattle.year.proofs.calls.summary_line.Tie as tie
 
-slice-relend-prefix-summary : tie.Need-slice-relend-prefix-summary
-slice-relend-prefix-summary c = search needs
+wide : (c : tie.Start) → Front (c .args .held .room) (c .args .wide)
+wide c = front _ (sizes (c .args .held) _ (c .good .0) .room) (c .pre .0)
+
+tagged : (c : tie.Start) → Front (c .args .held .tags) (c .args .tagged)
+tagged c = front _ (sizes (c .args .held) _ (c .good .0) .tags) (c .pre .1)
 
 slice-aggregate-summary : tie.Need-slice-aggregate-summary
-slice-aggregate-summary c = sym (length-take-le _ _ (omega arith))
+slice-aggregate-summary c = search needs
 
-slice-relend-prefix-summary-2 : tie.Need-slice-relend-prefix-summary-2
-slice-relend-prefix-summary-2 c = search needs
+array-borrow-prefix-room : tie.Need-array-borrow-prefix-room
+array-borrow-prefix-room c = wide (c .before .before .before .before .before .before) .fits
 
 slice-aggregate-summary-2 : tie.Need-slice-aggregate-summary-2
-slice-aggregate-summary-2 c = sym (length-take-le _ _ (omega arith))
+slice-aggregate-summary-2 c = wide (c .before .before .before .before .before .before .before) .long
+
+array-borrow-prefix-tags : tie.Need-array-borrow-prefix-tags
+array-borrow-prefix-tags c = tagged (c .before .before .before .before .before .before .before) .fits
+
+slice-aggregate-summary-3 : tie.Need-slice-aggregate-summary-3
+slice-aggregate-summary-3 c = tagged (c .before .before .before .before .before .before .before .before) .long
 
 summary-requires : tie.Need-summary-requires
 summary-requires c κs = search needs
-
-slice-aggregate-word : tie.Need-slice-aggregate-word
-slice-aggregate-word c = search needs
-
-word-requires : tie.Need-word-requires
-word-requires c κs = search needs
 
 summary-words-requires : tie.Need-summary-words-requires
 summary-words-requires c κs = search needs
 
 rooms-requires : tie.Need-rooms-requires
 rooms-requires c κs = search needs
-
-same-length : tie.Need-same-length
-same-length c = search needs
-
-same-length-2 : tie.Need-same-length-2
-same-length-2 c = search needs
 
 returns : tie.Need-returns
 returns c = search needs
@@ -46,15 +42,12 @@ pub summary-line-spec : {M : Type 1} → statement M
 summary-line-spec =
     tie.close
     (tie.spec
-    slice-relend-prefix-summary
     slice-aggregate-summary
-    slice-relend-prefix-summary-2
+    array-borrow-prefix-room
     slice-aggregate-summary-2
+    array-borrow-prefix-tags
+    slice-aggregate-summary-3
     summary-requires
-    slice-aggregate-word
-    word-requires
     summary-words-requires
     rooms-requires
-    same-length
-    same-length-2
     returns)

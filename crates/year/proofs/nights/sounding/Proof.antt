@@ -1,57 +1,49 @@
--- `year::nights::sounding` meets its contract: each place is written once. Assumes nothing.
-use mathlib.Core.Path.{_≡_, refl, _∙_}
-use Prim.Native.Nat.{_≤_, _-_}
+-- `year::nights::sounding` meets its contract. Assumes nothing.
+use Prim.Native.Nat.{_+_, _*_, _%_, _^_, _≤_, _<_}
+use native.Mathlib.Nat.{mul-le-mul, mod-lt}
 use native.Mathlib.Omega.{arith}
-use lib.ListN.{length, length-set}
 use borrow.Author.Needs.{needs}
+use lib.IntN.{pos}
+use mir.Syntax.{w32}
+use mir.Facts.{toZ-pos}
+use Rattle.sums.proofs.Bound.{small-fits, natAbs-sub}
 use Rattle.year.proofs.nights.sounding.Statement.{statement}
 use Rattle.year.proofs.nights.sounding.Tie as tie
 
-abbrev Inv-loop : tie.InvT-loop
-Inv-loop y₀ i j₀ y j = (j ≤ length y₀) × (length y ≡ length y₀)
+product : (c : tie.Start) → 31 * c .args .i * c .args .j ≤ 22661 * 511
+product c = let a : 31 * c .args .i ≤ 22661 = omega arith in let b : c .args .j ≤ 511 = omega arith in mul-le-mul a b
 
-abbrev μ-loop : tie.MeasureT-loop
-μ-loop y₀ i j₀ y j = length y₀ - j
+mul-n : tie.Need-mul-n
+mul-n c = search needs
 
-loop-holds : tie.Need-loop-holds Inv-loop μ-loop
-loop-holds c = (omega arith, refl)
+mul-n-2 : tie.Need-mul-n-2
+mul-n-2 c = search needs
 
-sample-requires : tie.Need-sample-requires Inv-loop μ-loop
-sample-requires c κs = (omega arith, omega arith)
+add-n : tie.Need-add-n
+add-n c = search needs
 
-mul-t4 : tie.Need-mul-t4 Inv-loop μ-loop
-mul-t4 c = omega arith
+mul-n-3 : tie.Need-mul-n-3
+mul-n-3 c = search needs
 
-slice-set-from-y : tie.Need-slice-set-from-y Inv-loop μ-loop
-slice-set-from-y c = omega (arith, c .before .before .loop .inv .1)
+mul-n-4 : tie.Need-mul-n-4
+mul-n-4 c = omega (arith, product c)
 
-add-j : tie.Need-add-j Inv-loop μ-loop
-add-j c = omega arith
+add-n-2 : tie.Need-add-n-2
+add-n-2 c = omega (arith, product c)
 
-loop-less : tie.Need-loop-less Inv-loop μ-loop
-loop-less c = omega arith
+cast-result : tie.Need-cast-result
+cast-result c = search needs
 
-loop-again : tie.Need-loop-again Inv-loop μ-loop
-loop-again c = (omega arith, length-set (c .before .before .loop .y) (c .before .before .loop .j) _ ∙ c .before .before .loop .inv .1)
+sub-result : tie.Need-sub-result
+sub-result c =
+    let n = (7919 * c .args .i + 104729 * c .args .j + 31 * c .args .i * c .args .j) % 16777213 in
+    let l : n < 16777213 = mod-lt (7919 * c .args .i + 104729 * c .args .j + 31 * c .args .i * c .args .j) (omega arith) in
+    let s : n < 2 ^ 31 = omega (arith, l) in
+    rw (toZ-pos w32 s) (small-fits w32 _ (omega (arith, natAbs-sub (pos n) (pos 8388606), l)))
 
-same-length : tie.Need-same-length Inv-loop μ-loop
-same-length c = c .before .loop .inv .1
-
-returns : tie.Need-returns Inv-loop μ-loop
+returns : tie.Need-returns
 returns c = search needs
 
 pub sounding-spec : {M : Type 1} → statement M
 sounding-spec =
-    tie.close
-    (tie.spec
-    Inv-loop
-    μ-loop
-    loop-holds
-    sample-requires
-    mul-t4
-    slice-set-from-y
-    add-j
-    loop-less
-    loop-again
-    same-length
-    returns)
+    tie.close (tie.spec mul-n mul-n-2 add-n mul-n-3 mul-n-4 add-n-2 cast-result sub-result returns)

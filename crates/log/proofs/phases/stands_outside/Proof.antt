@@ -1,0 +1,16 @@
+-- `log::phases::stands_outside` meets its contract: each return rewrites with the tests that led there. Assumes nothing.
+use borrow.Author.Tests.{eq-eqb, ne-eqb}
+use Rattle.log.proofs.phases.stands_outside.Statement.{statement}
+use Rattle.log.proofs.phases.stands_outside.Tie as tie
+
+returns : tie.Need-returns
+returns c = simp (eq-eqb _ 2 (c .if1 .taken))
+
+returns-2 : tie.Need-returns-2
+returns-2 c = simp (ne-eqb _ 2 (c .before .if1 .left), eq-eqb _ 5 (c .if2 .taken))
+
+returns-3 : tie.Need-returns-3
+returns-3 c = simp (ne-eqb _ 2 (c .before .if1 .left), ne-eqb _ 5 (c .if2 .left))
+
+pub stands-outside-spec : {M : Type 1} → statement M
+stands-outside-spec = tie.close (tie.spec returns returns-2 returns-3)

@@ -1,0 +1,103 @@
+-- `records::together::holds` meets its contract: a test that fails refutes holding together, and all of them make it. Assumes nothing.
+use mathlib.Core.Path.{sym, _∙_}
+use mathlib.Core.Bool.{true≢false}
+use borrow.Author.Needs.{needs}
+use borrow.Author.Tests.{not-true, not-false, eq-eqb}
+use Prim.Native.Nat.{_≤_}
+use native.Mathlib.Nat.{mul-le-mul}
+use native.Mathlib.Omega.{arith}
+use Rattle.register.proofs.Word.{small}
+use Rattle.register.proofs.Judged.{accepted-exactly}
+use Rattle.records.proofs.Holding.{Filed, filed-by, filed-tests, holds-together}
+use Rattle.records.proofs.Whole.{whole, all-places, does-not, both-ways}
+use Rattle.records.proofs.together.holds.Statement.{statement}
+use Rattle.records.proofs.together.holds.Tie as tie
+
+check-taps-requires : tie.Need-check-taps-requires
+check-taps-requires c κs = search needs
+
+returns : tie.Need-returns
+returns c =
+    let a = c .before .before .args in
+    does-not (a .c) (a .store .now) (a .sums .now) (λ t. c .if1 .taken (c .before .check-taps .ensures ∙ accepted-exactly (a .c .order) (a .c .taps) .1 (t .filed .accepted)))
+
+filed-holds-requires : tie.Need-filed-holds-requires
+filed-holds-requires c κs = search needs
+
+returns-2 : tie.Need-returns-2
+returns-2 c =
+    let a = c .before .before .before .before .args in
+    does-not (a .c) (a .store .now) (a .sums .now) (λ t.
+    true≢false
+    (sym (filed-tests (a .c) (a .store .now) (a .sums .now) (holds-together (a .c) (a .store .now) (a .sums .now) .1 t))
+    ∙ sym (c .before .filed-holds .ensures)
+    ∙ not-true _ (c .if2 .taken)))
+
+cast-capacity : tie.Need-cast-capacity
+cast-capacity c = search needs
+
+-- once the two tests are passed
+filed : (c : tie.Else2) → Filed (c .before .before .before .before .args .c)
+filed c =
+    let a = c .before .before .before .before .args in
+    filed-by (a .c) (eq-eqb _ 0 (sym (c .before .before .before .check-taps .ensures) ∙ c .before .before .if1 .left))
+    (sym (c .before .filed-holds .ensures) ∙ not-false _ (c .if2 .left))
+
+full-period-requires : tie.Need-full-period-requires
+full-period-requires c κs = filed (c .before) .accepted .shaped .most
+
+cast-period : tie.Need-cast-period
+cast-period c = search needs
+
+mul-if3 : tie.Need-mul-if3
+mul-if3 c =
+    let f = filed (c .before .before) in
+    let p : c .full-period .result ≤ 65536 = omega (arith, c .full-period .ensures, small (f .accepted .shaped .most)) in
+    omega (arith, mul-le-mul (f .most) p)
+
+returns-3 : tie.Need-returns-3
+returns-3 c =
+    let a = c .before .before .before .before .before .before .before .args in
+    does-not (a .c) (a .store .now) (a .sums .now) (λ t. omega (arith, rw (c .before .full-period .ensures) at (c .if3 .taken), t .store-long))
+
+returns-4 : tie.Need-returns-4
+returns-4 c =
+    let a = c .before .before .before .before .before .before .before .before .args in
+    does-not (a .c) (a .store .now) (a .sums .now) (λ t. omega (arith, c .before .before .full-period .ensures, c .if4 .taken, t .sums-long))
+
+slice-aggregate-store-holds : tie.Need-slice-aggregate-store-holds
+slice-aggregate-store-holds c = search needs
+
+store-holds-requires : tie.Need-store-holds-requires
+store-holds-requires c κs =
+    let f = filed (c .before .before .before .before .before .before) in
+    (f .most, search needs, omega (arith, c .before .before .before .if3 .left), omega (arith, c .before .before .if4 .left))
+
+returns-5 : tie.Need-returns-5
+returns-5 c =
+    let n = c .before .before .before .before .before in
+    let a = n .before .before .before .before .before .before .args in
+    let e = n .full-period .ensures in
+    let two = rw e at (c .store-holds .ensures) in
+    both-ways _ _
+    (λ t. holds-together (a .c) (a .store .now) (a .sums .now) .1
+    (whole (a .c) (a .store .now) (a .sums .now) (filed (n .before .before)) (rw e at (c .before .before .before .before .if3 .left)) (rw e at (c .before .before .before .if4 .left)) (two .0 t)))
+    (λ h. two .1 (all-places (a .c) (a .store .now) (a .sums .now) (holds-together (a .c) (a .store .now) (a .sums .now) .0 h)))
+
+pub holds-spec : {M : Type 1} → statement M
+holds-spec =
+    tie.close
+    (tie.spec
+    check-taps-requires
+    returns
+    filed-holds-requires
+    returns-2
+    cast-capacity
+    full-period-requires
+    cast-period
+    mul-if3
+    returns-3
+    returns-4
+    slice-aggregate-store-holds
+    store-holds-requires
+    returns-5)

@@ -1,0 +1,32 @@
+// The record, the store and the sums read again, at every call.
+use crate::Campaign;
+use crate::stored::store_holds;
+use crate::tables::filed_holds;
+use register::shift::full_period;
+use register::taps::check_taps;
+ghost use mathlib.Core.Path.{_≡_};
+ghost use Rattle.records.specs.Record.{together};
+
+// Whether the record holds together with the store and the sums.
+pub fn holds(c: Campaign, store: &[i32], sums: &[i64]) -> bool
+    ensures { λ r. ⌜ r ≡ together c (now (store .entry)) (now (sums .entry)) ⌝ }
+{
+    let order = c.order;
+    let taps = c.taps;
+    if check_taps(order, taps) != 0 {
+        return false;
+    }
+    if !filed_holds(c) {
+        return false;
+    }
+    let capacity = c.capacity as usize;
+    let period = full_period(order) as usize;
+    if store.len() < capacity * period {
+        return false;
+    }
+    if sums.len() < period {
+        return false;
+    }
+    let slots = c.slots;
+    store_holds(&slots, capacity, period, store, sums)
+}

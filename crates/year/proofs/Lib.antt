@@ -1,0 +1,3 @@
+-- What the program's proofs cite.
+mod Sizes
+mod Fronts

@@ -1,0 +1,2 @@
+-- What the contracts of `year` cite.
+pub mod Lent
