@@ -18,7 +18,7 @@ pub enum Phase {
 
 // An item of the log.
 pub enum Item {
-    // Order, taps, slots.
+    // Order, taps, capacity.
     Start(u32, u32, u32),
     Open(u32),
     Sample(i32),

@@ -42,25 +42,25 @@ pub fn unbegun() -> Book
     }
 }
 
-// Whether the order is above 9 or the slots above 8.
-fn too_large(order: u32, slots: u32) -> bool
-    ensures { λ r. ⌜ r ≡ tooLarge order slots ⌝ }
+// Whether the order or the capacity is above what the program takes.
+fn too_large(order: u32, capacity: u32) -> bool
+    ensures { λ r. ⌜ r ≡ tooLarge order capacity ⌝ }
 {
-    LOG_ORDER < order || LOG_SLOTS < slots
+    LOG_ORDER < order || LOG_SLOTS < capacity
 }
 
 // The first of 1, 2, 3, 4, 9, 17 that refuses a start, and 0 where none does.
-fn start_refusal(order: u32, taps: u32, slots: u32) -> u32
-    ensures { λ n. ⌜ n ≡ first (logStartChecks order taps slots) ⌝ }
+fn start_refusal(order: u32, taps: u32, capacity: u32) -> u32
+    ensures { λ n. ⌜ n ≡ first (logStartChecks order taps capacity) ⌝ }
 {
     let refusal = check_taps(order, taps);
     if refusal != 0 {
         return refusal;
     }
-    if outside(slots, MOST_SLOTS) {
+    if outside(capacity, MOST_SLOTS) {
         return 9;
     }
-    if too_large(order, slots) {
+    if too_large(order, capacity) {
         return 17;
     }
     0
@@ -100,20 +100,20 @@ fn begin(
     c: Campaign,
     order: u32,
     taps: u32,
-    slots: u32,
+    capacity: u32,
     store: &mut [i32],
     sums: &mut [i64],
 ) -> Applied
-    ensures { λ x. ⌜ (x, now (store .exit), now (sums .exit)) ≡ beganOutcome c order taps slots (now (store .entry)) (now (sums .entry)) ⌝ }
+    ensures { λ x. ⌜ (x, now (store .exit), now (sums .exit)) ≡ beganOutcome c order taps capacity (now (store .entry)) (now (sums .entry)) ⌝ }
 {
-    let refusal = start_refusal(order, taps, slots);
+    let refusal = start_refusal(order, taps, capacity);
     if refusal != 0 {
         return started_by(Started {
             answer: refusal,
             campaign: c,
         });
     }
-    started_by(start(c, order, taps, slots, store, sums))
+    started_by(start(c, order, taps, capacity, store, sums))
 }
 
 // The sample goes to the next place of the open day's recording.
@@ -247,7 +247,7 @@ pub fn apply(
     let phase = book.phase;
     let c = book.campaign;
     match item {
-        Item::Start(order, taps, slots) => begin(c, order, taps, slots, store, sums),
+        Item::Start(order, taps, capacity) => begin(c, order, taps, capacity, store, sums),
         Item::Open(day) => say(after_open(day), c, Line::Silent),
         Item::Sample(v) => say(take_sample(phase, v, recording), c, Line::Silent),
         Item::Enter => close(phase, c, store, sums, recording),

@@ -1,5 +1,5 @@
--- Document 01, "Response and prediction" and "Room": the sample range and its rails, a recording's length, and buffers that are short or
--- cleared. Assumes nothing.
+-- Document 01, "What it covers", "The campaign", "Refusal numbers" and "Room": the sample range and its rails, a recording's length, and buffers
+-- that are short or cleared. Assumes nothing.
 use mathlib.Core.List.{List}
 use mathlib.Core.Bool.{Bool, not, _&&_, _||_}
 use Prim.Native.Nat.{ℕ, _+_, _*_}
@@ -12,7 +12,7 @@ use Rattle.sums.specs.Lists.{table, put, some}
 
 -- ---- the sample range, from rail to rail
 
--- -8,388,608
+-- the rails, -8,388,608 and 8,388,607
 abbrev pub lowest : ℤ
 lowest = negsuc 8388607
 

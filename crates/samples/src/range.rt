@@ -33,7 +33,7 @@ fn either(a: bool, b: bool) -> bool
     a || b
 }
 
-// Whether some value lies outside it. Every value is looked at, so that the compiler looks at many at a time.
+// Whether some value lies outside the sample range. Every value is looked at, so that the compiler looks at many at a time.
 pub fn some_out(y: &[i32]) -> bool
     ensures { λ r. ⌜ r ≡ someOut (length (now (y .entry))) (at (now (y .entry))) ⌝ }
 {

@@ -45,7 +45,7 @@ pub fn start_line(
     store: &mut [i32],
     order: u32,
     taps: u32,
-    slots: u32,
+    capacity: u32,
     samples: usize,
     wide: usize,
 ) -> Held
@@ -57,7 +57,7 @@ pub fn start_line(
         c,
         order,
         taps,
-        slots,
+        capacity,
         &mut store[..samples],
         &mut sums[..wide],
     );

@@ -129,9 +129,9 @@ fn wrong_sums(held: Held, store: &mut Store, plan: Plan) -> Held
 
 fn wrong_orders(held: Held, store: &mut Store, plan: Plan) -> Held {
     let taps = plan.taps;
-    let slots = plan.capacity;
-    let next = start_line(held, store, LEAST_ORDER - 1, taps, slots, STORE, PLACES);
-    start_line(next, store, MOST_ORDER + 1, taps, slots, STORE, PLACES)
+    let capacity = plan.capacity;
+    let next = start_line(held, store, LEAST_ORDER - 1, taps, capacity, STORE, PLACES);
+    start_line(next, store, MOST_ORDER + 1, taps, capacity, STORE, PLACES)
 }
 
 // Not below 2^N, with tap 0 clear, and of a register that is not maximal.
@@ -139,11 +139,11 @@ fn wrong_taps(held: Held, store: &mut Store, plan: Plan) -> Held
     requires { ⌜ Runs plan ⌝ }
 {
     let order = plan.order;
-    let slots = plan.capacity;
+    let capacity = plan.capacity;
     let beyond = plan.period as u32 + 1;
-    let mut next = start_line(held, store, order, beyond, slots, STORE, PLACES);
-    next = start_line(next, store, order, 2, slots, STORE, PLACES);
-    start_line(next, store, order, 1, slots, STORE, PLACES)
+    let mut next = start_line(held, store, order, beyond, capacity, STORE, PLACES);
+    next = start_line(next, store, order, 2, capacity, STORE, PLACES);
+    start_line(next, store, order, 1, capacity, STORE, PLACES)
 }
 
 fn wrong_slots(held: Held, store: &mut Store, plan: Plan) -> Held {
@@ -159,11 +159,11 @@ fn short_starts(held: Held, store: &mut Store, plan: Plan) -> Held
 {
     let order = plan.order;
     let taps = plan.taps;
-    let slots = plan.capacity;
+    let capacity = plan.capacity;
     let period = plan.period;
-    let samples = slots as usize * period;
-    let next = start_line(held, store, order, taps, slots, samples - 1, PLACES);
-    start_line(next, store, order, taps, slots, STORE, period - 1)
+    let samples = capacity as usize * period;
+    let next = start_line(held, store, order, taps, capacity, samples - 1, PLACES);
+    start_line(next, store, order, taps, capacity, STORE, period - 1)
 }
 
 fn wrong_starts(held: Held, store: &mut Store, plan: Plan) -> Held

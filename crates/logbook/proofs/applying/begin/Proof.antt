@@ -35,7 +35,7 @@ returns : tie.Need-returns
 returns c =
     let t = c .before in
     let a = t .before .before .args in
-    refused (a .c) (a .order) (a .taps) (a .slots) (a .store .now) (a .sums .now) _ (t .before .start-refusal .ensures) (t .if1 .taken) (c .started-by .ensures)
+    refused (a .c) (a .order) (a .taps) (a .capacity) (a .store .now) (a .sums .now) _ (t .before .start-refusal .ensures) (t .if1 .taken) (c .started-by .ensures)
 
 start-requires : tie.Need-start-requires
 start-requires c κs = search needs
@@ -54,7 +54,7 @@ returns-2 c =
     let o = c .before .before .before in
     let t = o .before .before .before in
     let a = t .before .before .args in
-    accepted (a .c) (a .order) (a .taps) (a .slots) (a .store .now) (a .sums .now) _ (t .before .start-refusal .ensures) (t .if1 .left)
+    accepted (a .c) (a .order) (a .taps) (a .capacity) (a .store .now) (a .sums .now) _ (t .before .start-refusal .ensures) (t .if1 .left)
     (c .started-by2 .ensures) (o .start .ensures)
 
 pub begin-spec : {M : Type 1} → statement M

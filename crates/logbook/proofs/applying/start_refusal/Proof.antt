@@ -27,7 +27,7 @@ unfolding tapsAnswer
 returns c =
     let e = c .before .check-taps .ensures in
     let a = c .before .before .args in
-    let later : List (ℕ × Bool) = (9, slotsOut (a .slots)) ∷ (17, tooLarge (a .order) (a .slots)) ∷ [] in
+    let later : List (ℕ × Bool) = (9, slotsOut (a .capacity)) ∷ (17, tooLarge (a .order) (a .capacity)) ∷ [] in
     e ∙ sym (refused-first (tapsChecks (a .order) (a .taps)) later (λ z. c .if1 .taken (e ∙ z)))
 
 -- past the taps check
@@ -40,7 +40,7 @@ outside-requires c κs = search needs
 returns-2 : tie.Need-returns-2
 returns-2 c =
     let a = c .before .before .before .before .args in
-    says (a .order) (a .taps) (a .slots) (passed (c .before .before)) (sym (c .if2 .taken) ∙ c .before .outside .ensures) refl
+    says (a .order) (a .taps) (a .capacity) (passed (c .before .before)) (sym (c .if2 .taken) ∙ c .before .outside .ensures) refl
 
 too-large-requires : tie.Need-too-large-requires
 too-large-requires c κs = search needs
@@ -49,14 +49,14 @@ returns-3 : tie.Need-returns-3
 returns-3 c =
     let b = c .before .before .before in
     let a = b .before .before .before .args in
-    says (a .order) (a .taps) (a .slots) (passed (b .before)) (sym (c .before .before .if2 .left) ∙ b .outside .ensures)
+    says (a .order) (a .taps) (a .capacity) (passed (b .before)) (sym (c .before .before .if2 .left) ∙ b .outside .ensures)
     (sym (c .if3 .taken) ∙ c .before .too-large .ensures)
 
 returns-4 : tie.Need-returns-4
 returns-4 c =
     let b = c .before .before .before in
     let a = b .before .before .before .args in
-    says (a .order) (a .taps) (a .slots) (passed (b .before)) (sym (c .before .before .if2 .left) ∙ b .outside .ensures)
+    says (a .order) (a .taps) (a .capacity) (passed (b .before)) (sym (c .before .before .if2 .left) ∙ b .outside .ensures)
     (sym (c .if3 .left) ∙ c .before .too-large .ensures)
 
 pub start-refusal-spec : {M : Type 1} → statement M
