@@ -14,7 +14,11 @@
 
 enum { ROUNDS = 41, SLOT_COUNT = 64, MOST_P = 65535 };
 
-static uint32_t order, taps;
+/* The orders that are measured, and for each taps that are not maximal, though their register takes nearly P steps to return. */
+static const struct { uint32_t order, short_taps, steps; } registers[] = {{9, 5, 465}, {12, 39, 3937}, {16, 99, 64897}};
+enum { REGISTERS = sizeof registers / sizeof *registers };
+
+static uint32_t order, taps, short_taps, steps, period;
 static size_t p;
 static uint8_t days[METER_DAYS];
 static uint16_t slots[METER_SLOTS];
@@ -34,8 +38,8 @@ static void must(int held, const char *what) {
 #define RECORD order, taps, SLOT_COUNT, days, METER_DAYS, slots, METER_SLOTS, store, SLOT_COUNT *p, sums, p
 #define ROOM room, p + 1, tags, 2 * p
 
-static void recording(void) { must(meter_recording(order, taps, y, p, r, p, ROOM) == 0, "recording"); }
-static void predict(void) { must(meter_predict(order, taps, h, p, predicted, p) == 0, "predict"); }
+static void recording(void) { must(meter_recording(order, taps, y, p, r, p, ROOM, &period) == 0, "recording"); }
+static void predict(void) { must(meter_predict(order, taps, h, p, predicted, p, &period) == 0, "predict"); }
 static void enter(void) {
     uint32_t state;
     size_t value;
@@ -48,6 +52,8 @@ static void plain(void) { plain_recording(order, taps, y, other, room, tags, tag
 static void ready(void) { plain_turn(order, y, other, room, tags, tags + p); }
 static void prediction(void) { plain_predict(order, taps, h, predicted, room, tags, tags + p); }
 static void pass(void) { sink += plain_pass(store, SLOT_COUNT * p); }
+static void refused(void) { must(meter_taps(order, short_taps, &period) == METER_NOT_MAXIMAL && period == steps, "short taps"); }
+static void walk(void) { must(plain_walk(order, short_taps) == steps, "walk"); }
 
 #ifdef WITH_FFTW
 /* (c) the correlation by two transforms, the signal's own made before. */
@@ -72,7 +78,7 @@ static void plan_fftw(void) {
     forth = fftw_plan_dft_r2c_1d((int)p, wave, of_y, FFTW_MEASURE);
     back = fftw_plan_dft_c2r_1d((int)p, of_y, wave, FFTW_MEASURE);
     uint8_t *bits = malloc(p);
-    must(meter_sequence(order, taps, bits, p) == 0, "sequence");
+    must(meter_sequence(order, taps, bits, p, &period) == 0, "sequence");
     for (size_t j = 0; j < p; j++)
         wave[j] = 1 - 2 * bits[j];
     fftw_execute_dft_r2c(forth, wave, of_x);
@@ -89,7 +95,7 @@ static struct {
 #ifdef WITH_FFTW
     {"fftw", fftw, {0}},
 #endif
-    {"predict", predict, {0}}, {"plain_predict", prediction, {0}},
+    {"predict", predict, {0}}, {"plain_predict", prediction, {0}}, {"refused", refused, {0}}, {"walk", walk, {0}},
     {"enter", enter, {0}}, {"pass", pass, {0}}, {"response", response, {0}}, {"withdraw", withdraw, {0}},
 };
 enum { PIECES = sizeof pieces / sizeof *pieces, OVER_THE_STORE = PIECES - 4 };
@@ -111,11 +117,13 @@ static int32_t drawn(int32_t size) {
     return (int32_t)((seed >> 33) % (uint32_t)(2 * size + 1)) - size;
 }
 
-static void begin(uint32_t n) {
-    order = n;
-    p = ((size_t)1 << n) - 1;
+static void begin(int n) {
+    order = registers[n].order;
+    short_taps = registers[n].short_taps;
+    steps = registers[n].steps;
+    p = ((size_t)1 << order) - 1;
     must(meter_default_taps(order, &taps) == 0, "taps");
-    must(meter_start(RECORD) == 0, "start");
+    must(meter_start(RECORD, &period) == 0, "start");
     for (uint32_t day = 1; day < SLOT_COUNT; day++) {
         uint32_t state;
         size_t value;
@@ -158,7 +166,6 @@ static void rounds(int first, int end) {
 }
 
 int main(void) {
-    static const uint32_t orders[3] = {9, 12, 16};
     store = malloc(SLOT_COUNT * MOST_P * sizeof *store);
     y = malloc(MOST_P * sizeof *y);
     h = malloc(MOST_P * sizeof *h);
@@ -172,8 +179,8 @@ int main(void) {
     doubles = malloc(MOST_P * sizeof *doubles);
     paper_room = malloc((MOST_P + 1) * sizeof *paper_room);
     paper_out = malloc(MOST_P * sizeof *paper_out);
-    for (int n = 0; n < 3; n++) {
-        begin(orders[n]);
+    for (int n = 0; n < REGISTERS; n++) {
+        begin(n);
         rounds(0, OVER_THE_STORE);
         rounds(OVER_THE_STORE, PIECES);
         for (int i = 0; i < PIECES; i++) {

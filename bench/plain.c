@@ -1,10 +1,14 @@
 #include "plain.h"
 
+static inline uint32_t next_window(uint32_t order, uint32_t taps, uint32_t window) {
+    return (window >> 1) | ((uint32_t)__builtin_parity(window & taps) << (order - 1));
+}
+
 void plain_tags(uint32_t order, uint32_t taps, uint16_t *windows, uint16_t *delays) {
     uint32_t p = (1u << order) - 1, window = p, tag = 1;
     for (uint32_t j = 0; j < p; j++) {
         windows[j] = (uint16_t)window;
-        window = (window >> 1) | ((uint32_t)__builtin_parity(window & taps) << (order - 1));
+        window = next_window(order, taps, window);
     }
     for (uint32_t k = p; k > 0; k--) {
         tag = ((tag << 1) & p) ^ (tag >> (order - 1) ? taps : 0);
@@ -83,4 +87,13 @@ int64_t plain_pass(const int32_t *store, size_t n) {
     for (size_t i = 0; i < n; i++)
         total += store[i];
     return total;
+}
+
+uint32_t plain_walk(uint32_t order, uint32_t taps) {
+    uint32_t p = (1u << order) - 1, window = p, steps = 0;
+    do {
+        window = next_window(order, taps, window);
+        steps++;
+    } while (window != p);
+    return steps;
 }

@@ -23,4 +23,7 @@ void plain_predict(uint32_t order, uint32_t taps, const int32_t *h, int32_t *out
 /* (d) one pass over the store: the sum of its samples. */
 int64_t plain_pass(const int32_t *store, size_t n);
 
+/* (e) the steps after which the register first returns to all ones. */
+uint32_t plain_walk(uint32_t order, uint32_t taps);
+
 #endif

@@ -1,4 +1,5 @@
-/* Calls every function of meter.h on document 01's numbers, and asks for its refusals in words. Prints nothing but what is wrong, and a last line. */
+/* Calls every function of meter.h on document 01's numbers, asks for its refusals in words, and holds the period of each function that tells one to
+ * what meter.h says, at every refusal that the function has. Prints nothing but what is wrong, and a last line. */
 #include "meter.h"
 #include <stdio.h>
 #include <string.h>
@@ -25,6 +26,7 @@ static int64_t r[P + 1];
 static int32_t mean[P + 1];
 static int64_t room[P + 2];
 static uint16_t tags[2 * P + 1];
+static uint32_t period;
 
 #define RECORD ORDER, TAPS, SLOT_COUNT, days, METER_DAYS + 1, slots, METER_SLOTS + 1, store, SLOT_COUNT * P + 1, sums, P + 1
 #define ROOM room, P + 2, tags, 2 * P + 1
@@ -33,10 +35,12 @@ static int says(uint32_t answer, const char *words) {
     return strcmp(meter_explain(answer), words) == 0;
 }
 
+static uint32_t judged(uint32_t order, uint32_t taps) { return meter_taps(order, taps, &period); }
+
 static void words(void) {
     EXPECT(says(METER_ACCEPTED, "accepted") && says(18, "unknown") && says(4294967295u, "unknown"));
-    EXPECT(says(meter_taps(17, 3), "order below 2 or above 16") && says(meter_taps(2, 4), "taps not below 2^N"));
-    EXPECT(says(meter_taps(2, 2), "tap 0 clear") && says(meter_taps(2, 1), "register not maximal"));
+    EXPECT(says(judged(17, 3), "order below 2 or above 16") && says(judged(2, 4), "taps not below 2^N"));
+    EXPECT(says(judged(2, 2), "tap 0 clear") && says(judged(2, 1), "register not maximal"));
     EXPECT(says(METER_BEYOND_THE_PROGRAM, "the program only: order above 9 or slots above 8") && METER_BEYOND_THE_PROGRAM == 17);
     for (uint32_t n = 0; n < 17; n++)
         EXPECT(!says(n, "unknown") && !says(n, meter_explain(n + 1)));
@@ -47,12 +51,12 @@ static void registers(void) {
     int32_t sign = 0;
     uint8_t bits[P + 1] = {9, 9, 9, 9, 9, 9, 9, 9};
     int8_t signs[4];
-    EXPECT(meter_taps(2, 3) == 0 && meter_taps(2, 1) == 4 && meter_taps(2, 2) == 3 && meter_taps(2, 4) == 2);
-    EXPECT(meter_taps(4, 15) == 4 && meter_taps(4, 5) == 4 && meter_taps(1, 3) == 1 && meter_taps(17, 3) == 1);
+    EXPECT(judged(2, 3) == 0 && judged(2, 1) == 4 && judged(2, 2) == 3 && judged(2, 4) == 2);
+    EXPECT(judged(4, 15) == 4 && judged(4, 5) == 4 && judged(1, 3) == 1 && judged(17, 3) == 1);
     EXPECT(meter_default_taps(17, &taps) == 1 && taps == 7);
     EXPECT(meter_default_taps(16, &taps) == 0 && taps == 45);
-    EXPECT(meter_sequence(3, 3, bits, 6) == 6 && bits[0] == 9);
-    EXPECT(meter_sequence(3, 3, bits, 8) == 0 && memcmp(bits, (uint8_t[]){1, 1, 1, 0, 0, 1, 0, 9}, 8) == 0);
+    EXPECT(meter_sequence(3, 3, bits, 6, &period) == 6 && bits[0] == 9);
+    EXPECT(meter_sequence(3, 3, bits, 8, &period) == 0 && memcmp(bits, (uint8_t[]){1, 1, 1, 0, 0, 1, 0, 9}, 8) == 0);
     EXPECT(meter_player_new(3, 4, &o, &t, &window, &count) == 3 && window == 9);
     EXPECT(meter_player_new(3, 3, &o, &t, &window, &count) == 0 && o == 3 && t == 3 && window == 7 && count == 0);
     count = 4294967295u;
@@ -71,21 +75,21 @@ static void recordings(void) {
     r[P] = 9;
     room[P + 1] = 9;
     tags[2 * P] = 9;
-    EXPECT(meter_predict(ORDER, TAPS, h, 6, y, P + 1) == 5);
-    EXPECT(meter_predict(ORDER, TAPS, h, P, y, P + 1) == 0);
+    EXPECT(meter_predict(ORDER, TAPS, h, 6, y, P + 1, &period) == 5);
+    EXPECT(meter_predict(ORDER, TAPS, h, P, y, P + 1, &period) == 0);
     EXPECT(memcmp(y, (int32_t[]){-1, -3, -1, 3, 3, -3, 1, 9}, sizeof y) == 0);
     y[0] = 9;
     room[0] = 9;
-    EXPECT(meter_predict_in_room(ORDER, TAPS, h, P, y, P + 1, room, P) == 6 && y[0] == 9 && room[0] == 9);
-    EXPECT(meter_predict_in_room(ORDER, TAPS, loud, P, y, P + 1, room, P + 2) == 8 && y[0] == 9 && room[0] == 9);
-    EXPECT(meter_predict_in_room(ORDER, TAPS, h, P, y, P + 1, room, P + 2) == 0);
+    EXPECT(meter_predict_in_room(ORDER, TAPS, h, P, y, P + 1, room, P, &period) == 6 && y[0] == 9 && room[0] == 9);
+    EXPECT(meter_predict_in_room(ORDER, TAPS, loud, P, y, P + 1, room, P + 2, &period) == 8 && y[0] == 9 && room[0] == 9);
+    EXPECT(meter_predict_in_room(ORDER, TAPS, h, P, y, P + 1, room, P + 2, &period) == 0);
     EXPECT(memcmp(y, (int32_t[]){-1, -3, -1, 3, 3, -3, 1, 9}, sizeof y) == 0 && memcmp(room, (int64_t[]){0, 0, 0, 0, 0, 0, 0, 0, 9}, sizeof room) == 0);
     y[0] = 9;
-    EXPECT(meter_predict_in_room(ORDER, TAPS, loud, P, y, P + 1, room, P + 2) == 8 && y[0] == 9);
+    EXPECT(meter_predict_in_room(ORDER, TAPS, loud, P, y, P + 1, room, P + 2, &period) == 8 && y[0] == 9);
     EXPECT(memcmp(room, (int64_t[]){0, 0, 0, 0, 0, 0, 0, 0, 9}, sizeof room) == 0);
     y[0] = -1;
-    EXPECT(meter_recording(ORDER, TAPS, y, P, r, P + 1, room, P, tags, 2 * P) == 6);
-    EXPECT(meter_recording(ORDER, TAPS, y, P, r, P + 1, ROOM) == 0);
+    EXPECT(meter_recording(ORDER, TAPS, y, P, r, P + 1, room, P, tags, 2 * P, &period) == 6);
+    EXPECT(meter_recording(ORDER, TAPS, y, P, r, P + 1, ROOM, &period) == 0);
     EXPECT(memcmp(r, (int64_t[]){16, 0, -8, 0, 0, 0, 0, 9}, sizeof r) == 0);
     EXPECT(room[0] == 0 && room[P] == 0 && room[P + 1] == 9 && tags[0] == 0 && tags[2 * P] == 9);
 }
@@ -98,11 +102,11 @@ static void campaigns(void) {
     days[METER_DAYS] = 9;
     slots[METER_SLOTS] = 9;
     store[0] = 9;
-    EXPECT(meter_start(ORDER, TAPS, SLOT_COUNT, days, METER_DAYS - 1, slots, METER_SLOTS, store, SLOT_COUNT * P, sums, P) == 6 && store[0] == 9);
-    EXPECT(meter_start(ORDER, TAPS, SLOT_COUNT, days, METER_DAYS, slots, METER_SLOTS - 1, store, SLOT_COUNT * P, sums, P) == 6 && store[0] == 9);
-    EXPECT(meter_start(ORDER, TAPS, 65, days, METER_DAYS - 1, slots, METER_SLOTS, store, SLOT_COUNT * P, sums, P) == 9 && store[0] == 9);
-    EXPECT(meter_start(ORDER, TAPS, 65, days, METER_DAYS, slots, METER_SLOTS, store, SLOT_COUNT * P, sums, P) == 9);
-    EXPECT(meter_start(RECORD) == 0 && store[0] == 0);
+    EXPECT(meter_start(ORDER, TAPS, SLOT_COUNT, days, METER_DAYS - 1, slots, METER_SLOTS, store, SLOT_COUNT * P, sums, P, &period) == 6 && store[0] == 9);
+    EXPECT(meter_start(ORDER, TAPS, SLOT_COUNT, days, METER_DAYS, slots, METER_SLOTS - 1, store, SLOT_COUNT * P, sums, P, &period) == 6 && store[0] == 9);
+    EXPECT(meter_start(ORDER, TAPS, 65, days, METER_DAYS - 1, slots, METER_SLOTS, store, SLOT_COUNT * P, sums, P, &period) == 9 && store[0] == 9);
+    EXPECT(meter_start(ORDER, TAPS, 65, days, METER_DAYS, slots, METER_SLOTS, store, SLOT_COUNT * P, sums, P, &period) == 9);
+    EXPECT(meter_start(RECORD, &period) == 0 && store[0] == 0);
     EXPECT(meter_response(RECORD, r, P + 1, mean, P + 1, ROOM) == 14);
     EXPECT(meter_summary(RECORD, ROOM, &stands, &highest, &lowest, &peak) == 0 && stands == 0 && highest == 9);
     EXPECT(meter_enter(RECORD, 367, y, P, &state, &value) == 10 && state == 9 && value == 9);
@@ -126,11 +130,102 @@ static void campaigns(void) {
     EXPECT(days[METER_DAYS] == 9 && slots[METER_SLOTS] == 9);
 }
 
+/* ---- the period ---- */
+
+enum { UNTOLD = 77, MOST_ORDER = 16, MOST_P = 65535, LEFT = 9 };
+enum { OF_TAPS = 1, OF_SEQUENCE = 2, OF_RECORDING = 4, OF_PREDICT = 8, OF_IN_ROOM = 16, OF_START = 32, PREDICTIONS = OF_PREDICT | OF_IN_ROOM, ALL = 63 };
+static const char *const named[] = {"taps", "sequence", "recording", "predict", "predict_in_room", "start"};
+
+/* All that is lent, for the largest order, each byte LEFT before a call. */
+static struct lent {
+    uint8_t bits[MOST_P], days[METER_DAYS];
+    uint16_t tags[2 * MOST_P], slots[METER_SLOTS];
+    int32_t samples[MOST_P], store[MOST_P];
+    int64_t wide[MOST_P], room[MOST_P + 1], sums[MOST_P];
+} lent, before;
+
+/* A register, the slots beyond the first, by how much each length is short, and the first two values of a recording or a response of zeros. */
+struct given {
+    uint32_t order, taps, more_slots;
+    size_t in, out, room, tags, days, slots, store, sums;
+    int32_t values[2];
+};
+
+static uint32_t answer_of(unsigned function, const struct given *g, uint32_t *told) {
+    static int32_t in[MOST_P];
+    size_t p = g->order <= MOST_ORDER ? ((size_t)1 << g->order) - 1 : MOST_P;
+    memcpy(in, g->values, sizeof g->values);
+    switch (function) {
+    case OF_TAPS: return meter_taps(g->order, g->taps, told);
+    case OF_SEQUENCE: return meter_sequence(g->order, g->taps, lent.bits, p - g->out, told);
+    case OF_RECORDING:
+        return meter_recording(g->order, g->taps, in, p - g->in, lent.wide, p - g->out, lent.room, p + 1 - g->room, lent.tags, 2 * p - g->tags, told);
+    case OF_PREDICT: return meter_predict(g->order, g->taps, in, p - g->in, lent.samples, p - g->out, told);
+    case OF_IN_ROOM:
+        return meter_predict_in_room(g->order, g->taps, in, p - g->in, lent.samples, p - g->out, lent.room, p + 1 - g->room, told);
+    default:
+        return meter_start(g->order, g->taps, 1 + g->more_slots, lent.days, METER_DAYS - g->days, lent.slots, METER_SLOTS - g->slots,
+                           lent.store, p - g->store, lent.sums, p - g->sums, told);
+    }
+}
+
+/* What these functions answer to what is given, and the period after it. */
+static const struct { unsigned functions; struct given given; uint32_t answer, period; } told_by[] = {
+    {ALL, {.order = 2, .taps = 3}, 0, 3},
+    {ALL, {.order = 3, .taps = 3}, 0, 7},
+    {ALL, {.order = 4, .taps = 9}, 0, 15},
+    {ALL, {.order = 16, .taps = 45}, 0, 65535},
+    {ALL, {.order = 4, .taps = 15}, 4, 5},
+    {ALL, {.order = 4, .taps = 5}, 4, 6},
+    {ALL, {.order = 3, .taps = 7}, 4, 1},
+    {ALL, {.order = 5, .taps = 3}, 4, 21},
+    {ALL, {.order = 16, .taps = 65535}, 4, 17},
+    {ALL, {.order = 16, .taps = 99}, 4, 64897},
+    /* Whatever else is wrong, 4 comes first and has its period. */
+    {ALL, {4, 15, 64, .in = 1, .out = 1, .room = 1, .tags = 1, .days = 1, .slots = 1, .store = 1, .sums = 1, .values = {8388608, 0}}, 4, 5},
+    {ALL, {.order = 1, .taps = 3}, 1, UNTOLD},
+    {ALL, {.order = 17, .taps = 3}, 1, UNTOLD},
+    {ALL, {.order = 4, .taps = 16}, 2, UNTOLD},
+    {ALL, {.order = 4, .taps = 14}, 3, UNTOLD},
+    {OF_RECORDING | PREDICTIONS, {3, 3, .in = 1}, 5, UNTOLD},
+    {OF_SEQUENCE | OF_RECORDING | PREDICTIONS, {3, 3, .out = 1}, 6, UNTOLD},
+    {OF_RECORDING | OF_IN_ROOM, {3, 3, .room = 1}, 6, UNTOLD},
+    {OF_RECORDING, {3, 3, .tags = 1}, 6, UNTOLD},
+    {OF_RECORDING | PREDICTIONS, {3, 3, .values = {8388608, 0}}, 7, UNTOLD},
+    {PREDICTIONS, {3, 3, .values = {8388607, 8388607}}, 8, UNTOLD},
+    {OF_START, {3, 3, .more_slots = 64}, 9, UNTOLD},
+    {OF_START, {3, 3, .days = 1}, 6, UNTOLD},
+    {OF_START, {3, 3, .slots = 1}, 6, UNTOLD},
+    {OF_START, {3, 3, .store = 1}, 6, UNTOLD},
+    {OF_START, {3, 3, .sums = 1}, 6, UNTOLD},
+};
+enum { TOLD = sizeof told_by / sizeof *told_by };
+
+static void expect_told(unsigned f, size_t i) {
+    char what[160];
+    uint32_t told = UNTOLD;
+    memset(&lent, LEFT, sizeof lent);
+    memset(&before, LEFT, sizeof before);
+    uint32_t answer = answer_of(1u << f, &told_by[i].given, &told);
+    snprintf(what, sizeof what, "case %zu, meter_%s: answer %u, period %u", i, named[f], (unsigned)answer, (unsigned)told);
+    expect(answer == told_by[i].answer && told == told_by[i].period, what);
+    snprintf(what, sizeof what, "case %zu, meter_%s: a refused call writes what it was lent", i, named[f]);
+    expect(answer == 0 || memcmp(&lent, &before, sizeof lent) == 0, what);
+}
+
+static void periods(void) {
+    for (size_t i = 0; i < TOLD; i++)
+        for (unsigned f = 0; f < sizeof named / sizeof *named; f++)
+            if (told_by[i].functions >> f & 1)
+                expect_told(f, i);
+}
+
 int main(void) {
     words();
     registers();
     recordings();
     campaigns();
+    periods();
     printf("calls from C: %d expected, %d wrong\n", made, wrong);
     return wrong != 0;
 }

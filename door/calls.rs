@@ -1,23 +1,23 @@
-// Calls every function of the C door from Rust on document 01's numbers: the declarations, a safe function over each, and what it must answer.
+// Calls every function of the C door from Rust on document 01's numbers: the declarations, a safe function over each, and what it must answer, the
+// period included.
 use std::process::ExitCode;
 
 mod declared {
     #[rustfmt::skip]
     extern "C" {
-        pub fn meter_taps(order: u32, taps: u32) -> u32;
+        pub fn meter_taps(order: u32, taps: u32, period: &mut u32) -> u32;
         pub fn meter_default_taps(order: u32, taps: &mut u32) -> u32;
-        pub fn meter_sequence(order: u32, taps: u32, out: *mut u8, out_len: usize) -> u32;
+        pub fn meter_sequence(order: u32, taps: u32, out: *mut u8, out_len: usize, period: &mut u32) -> u32;
         pub fn meter_player_new(order: u32, taps: u32, o: &mut u32, t: &mut u32, window: &mut u32, count: &mut u32) -> u32;
         pub fn meter_player_step(order: &mut u32, taps: &mut u32, window: &mut u32, count: &mut u32, sign: &mut i32) -> u32;
         pub fn meter_player_play(order: &mut u32, taps: &mut u32, window: &mut u32, count: &mut u32, signs: *mut i8, signs_len: usize) -> u32;
         pub fn meter_recording(order: u32, taps: u32, y: *const i32, y_len: usize, out: *mut i64, out_len: usize,
-            room: *mut i64, room_len: usize, tags: *mut u16, tags_len: usize) -> u32;
-        pub fn meter_predict(order: u32, taps: u32, h: *const i32, h_len: usize, out: *mut i32, out_len: usize) -> u32;
-        pub fn meter_predict_in_room(
-            order: u32, taps: u32, h: *const i32, h_len: usize, out: *mut i32, out_len: usize, room: *mut i64, room_len: usize,
-        ) -> u32;
+            room: *mut i64, room_len: usize, tags: *mut u16, tags_len: usize, period: &mut u32) -> u32;
+        pub fn meter_predict(order: u32, taps: u32, h: *const i32, h_len: usize, out: *mut i32, out_len: usize, period: &mut u32) -> u32;
+        pub fn meter_predict_in_room(order: u32, taps: u32, h: *const i32, h_len: usize, out: *mut i32, out_len: usize,
+            room: *mut i64, room_len: usize, period: &mut u32) -> u32;
         pub fn meter_start(order: u32, taps: u32, capacity: u32, days: *mut u8, days_len: usize, slots: *mut u16, slots_len: usize,
-            store: *mut i32, store_len: usize, sums: *mut i64, sums_len: usize) -> u32;
+            store: *mut i32, store_len: usize, sums: *mut i64, sums_len: usize, period: &mut u32) -> u32;
         pub fn meter_enter(order: u32, taps: u32, capacity: u32, days: *mut u8, days_len: usize, slots: *mut u16, slots_len: usize,
             store: *mut i32, store_len: usize, sums: *mut i64, sums_len: usize,
             day: u32, y: *const i32, y_len: usize, state: &mut u32, value: &mut usize) -> u32;
@@ -43,8 +43,19 @@ struct Player {
     count: u32,
 }
 
-fn taps(order: u32, taps: u32) -> u32 {
-    unsafe { declared::meter_taps(order, taps) }
+// What a place for the period holds before a call.
+const UNTOLD: u32 = 77;
+
+// The answer of a call that tells a period, and what the period's place holds after it.
+type Told = (u32, u32);
+
+fn told(call: impl FnOnce(&mut u32) -> u32) -> Told {
+    let mut period = UNTOLD;
+    (call(&mut period), period)
+}
+
+fn taps(order: u32, taps: u32) -> Told {
+    told(|period| unsafe { declared::meter_taps(order, taps, period) })
 }
 
 fn default_taps(order: u32) -> Result<u32, u32> {
@@ -55,8 +66,8 @@ fn default_taps(order: u32) -> Result<u32, u32> {
     }
 }
 
-fn sequence(order: u32, taps: u32, out: &mut [u8]) -> u32 {
-    unsafe { declared::meter_sequence(order, taps, out.as_mut_ptr(), out.len()) }
+fn sequence(order: u32, taps: u32, out: &mut [u8]) -> Told {
+    told(|period| unsafe { declared::meter_sequence(order, taps, out.as_mut_ptr(), out.len(), period) })
 }
 
 impl Player {
@@ -99,23 +110,22 @@ impl Room {
     }
 }
 
-fn recording(order: u32, taps: u32, y: &[i32], out: &mut [i64], room: &mut Room) -> u32 {
-    unsafe {
+fn recording(order: u32, taps: u32, y: &[i32], out: &mut [i64], room: &mut Room) -> Told {
+    told(|period| unsafe {
         declared::meter_recording(
             order, taps, y.as_ptr(), y.len(), out.as_mut_ptr(), out.len(),
-            room.wide.as_mut_ptr(), room.wide.len(), room.tags.as_mut_ptr(), room.tags.len(),
+            room.wide.as_mut_ptr(), room.wide.len(), room.tags.as_mut_ptr(), room.tags.len(), period,
         )
-    }
+    })
 }
 
-fn predict(order: u32, taps: u32, h: &[i32], out: &mut [i32]) -> u32 {
-    unsafe { declared::meter_predict(order, taps, h.as_ptr(), h.len(), out.as_mut_ptr(), out.len()) }
+fn predict(order: u32, taps: u32, h: &[i32], out: &mut [i32]) -> Told {
+    told(|period| unsafe { declared::meter_predict(order, taps, h.as_ptr(), h.len(), out.as_mut_ptr(), out.len(), period) })
 }
 
-fn predict_in_room(order: u32, taps: u32, h: &[i32], out: &mut [i32], room: &mut [i64]) -> u32 {
-    unsafe {
-        declared::meter_predict_in_room(order, taps, h.as_ptr(), h.len(), out.as_mut_ptr(), out.len(), room.as_mut_ptr(), room.len())
-    }
+fn predict_in_room(order: u32, taps: u32, h: &[i32], out: &mut [i32], room: &mut [i64]) -> Told {
+    let (rp, rn) = (room.as_mut_ptr(), room.len());
+    told(|period| unsafe { declared::meter_predict_in_room(order, taps, h.as_ptr(), h.len(), out.as_mut_ptr(), out.len(), rp, rn, period) })
 }
 
 struct Campaign {
@@ -140,8 +150,8 @@ macro_rules! lent {
 }
 
 impl Campaign {
-    fn start(order: u32, taps: u32, capacity: u32, days: usize) -> Result<Campaign, u32> {
-        let p = (1usize << order) - 1;
+    fn start(order: u32, taps: u32, capacity: u32, days: usize) -> (Told, Campaign) {
+        let p = length(order);
         let mut c = Campaign {
             order,
             taps,
@@ -151,8 +161,7 @@ impl Campaign {
             store: vec![9; capacity as usize * p],
             sums: vec![9; p],
         };
-        let answer = lent!(meter_start, c, as_mut_ptr);
-        if answer == 0 { Ok(c) } else { Err(answer) }
+        (told(|period| lent!(meter_start, c, as_mut_ptr, period)), c)
     }
 
     fn enter(&mut self, day: u32, y: &[i32]) -> Result<(u32, usize), u32> {
@@ -192,55 +201,115 @@ impl Campaign {
     }
 }
 
-fn main() -> ExitCode {
-    let mut facts: Vec<(&str, bool)> = Vec::new();
-    macro_rules! expect {
-        ($fact:expr) => {
-            facts.push((stringify!($fact), $fact))
-        };
-    }
-    const Y: [i32; 7] = [-1, -3, -1, 3, 3, -3, 1];
-    const R: [i64; 7] = [16, 0, -8, 0, 0, 0, 0];
+const Y: [i32; 7] = [-1, -3, -1, 3, 3, -3, 1];
+const R: [i64; 7] = [16, 0, -8, 0, 0, 0, 0];
+const H: [i32; 7] = [2, 0, -1, 0, 0, 0, 0];
 
-    expect!([taps(2, 3), taps(2, 1), taps(2, 2), taps(2, 4), taps(17, 3)] == [0, 4, 3, 2, 1]);
-    expect!([default_taps(16), default_taps(1)] == [Ok(45), Err(1)]);
+// P, or room for the largest order where the order is above it.
+fn length(order: u32) -> usize {
+    (1 << order.min(16)) - 1
+}
+
+// What was expected, and whether it held.
+type Facts = Vec<(String, bool)>;
+
+macro_rules! expect {
+    ($facts:expr, $fact:expr) => {
+        $facts.push((stringify!($fact).to_string(), $fact))
+    };
+}
+
+fn registers(facts: &mut Facts) {
+    expect!(facts, [taps(2, 3), taps(2, 1), taps(2, 2), taps(2, 4), taps(17, 3)] == [(0, 3), (4, 1), (3, UNTOLD), (2, UNTOLD), (1, UNTOLD)]);
+    expect!(facts, [default_taps(16), default_taps(1)] == [Ok(45), Err(1)]);
     let mut bits = [9u8; 8];
-    expect!(sequence(3, 5, &mut bits) == 0);
-    expect!(bits == [1, 1, 1, 0, 1, 0, 0, 9]);
+    expect!(facts, sequence(3, 5, &mut bits[..6]) == (6, UNTOLD));
+    expect!(facts, sequence(3, 5, &mut bits) == (0, 7));
+    expect!(facts, bits == [1, 1, 1, 0, 1, 0, 0, 9]);
     let mut player = Player::new(3, 3).expect("taps 3 have tap 0");
-    expect!(player.step() == Ok(-1));
+    expect!(facts, player.step() == Ok(-1));
     let mut signs = [0i8; 6];
-    expect!(player.play(&mut signs) == 0);
-    expect!(signs == [-1, -1, 1, 1, -1, 1]);
+    expect!(facts, player.play(&mut signs) == 0);
+    expect!(facts, signs == [-1, -1, 1, 1, -1, 1]);
     player.window = 0;
-    expect!(player.step() == Err(16));
+    expect!(facts, player.step() == Err(16));
+}
 
+fn recordings(facts: &mut Facts) {
     let (mut room, mut r, mut y) = (Room::new(7), [0i64; 7], [0i32; 7]);
-    expect!(predict(3, 3, &[2, 0, -1, 0, 0, 0, 0], &mut y) == 0);
-    expect!(y == Y);
+    let (beyond, loud) = ([8388608, 0, 0, 0, 0, 0, 0], [8388607, 8388607, 0, 0, 0, 0, 0]);
+    expect!(facts, predict(3, 3, &H, &mut y) == (0, 7));
+    expect!(facts, y == Y);
+    expect!(facts, predict(3, 3, &H[..6], &mut y) == (5, UNTOLD));
+    expect!(facts, predict(3, 3, &H, &mut y[..6]) == (6, UNTOLD));
+    expect!(facts, predict(3, 3, &beyond, &mut y) == (7, UNTOLD));
+    expect!(facts, predict(3, 3, &loud, &mut y) == (8, UNTOLD));
     let (mut lent, mut again) = ([9i64; 9], [0i32; 7]);
-    expect!(predict_in_room(3, 3, &[2, 0, -1, 0, 0, 0, 0], &mut again, &mut lent[..7]) == 6);
-    expect!(predict_in_room(3, 3, &[2, 0, -1, 0, 0, 0, 0], &mut again, &mut lent) == 0);
-    expect!(again == Y && lent == [0, 0, 0, 0, 0, 0, 0, 0, 9]);
-    expect!(recording(3, 3, &Y, &mut r, &mut room) == 0);
-    expect!(r == R && room.is_clear());
-    expect!(recording(3, 3, &Y[..6], &mut r, &mut room) == 5);
+    expect!(facts, predict_in_room(3, 3, &H[..6], &mut again, &mut lent) == (5, UNTOLD));
+    expect!(facts, predict_in_room(3, 3, &H, &mut again, &mut lent[..7]) == (6, UNTOLD));
+    expect!(facts, predict_in_room(3, 3, &beyond, &mut again, &mut lent) == (7, UNTOLD));
+    expect!(facts, predict_in_room(3, 3, &loud, &mut again, &mut lent) == (8, UNTOLD));
+    expect!(facts, again == [0; 7] && lent == [9; 9]);
+    expect!(facts, predict_in_room(3, 3, &H, &mut again, &mut lent) == (0, 7));
+    expect!(facts, again == Y && lent == [0, 0, 0, 0, 0, 0, 0, 0, 9]);
+    expect!(facts, recording(3, 3, &Y, &mut r, &mut room) == (0, 7));
+    expect!(facts, r == R && room.is_clear());
+    expect!(facts, recording(3, 3, &Y[..6], &mut r, &mut room) == (5, UNTOLD));
+    expect!(facts, recording(3, 3, &Y, &mut r[..6], &mut room) == (6, UNTOLD));
+    expect!(facts, recording(3, 3, &beyond, &mut r, &mut room) == (7, UNTOLD));
+}
 
-    expect!(Campaign::start(3, 3, 2, 365).err() == Some(6));
-    let mut c = Campaign::start(3, 3, 2, 366).expect("01's example starts");
-    expect!(c.summary(&mut room) == Ok(None));
-    expect!(c.enter(1, &Y) == Ok((1, 0)));
-    expect!(c.enter(2, &[5; 7]) == Ok((3, 0)));
-    expect!(c.enter(3, &[0, 0, 0, 8388607, 0, 0, 0]) == Ok((2, 3)));
-    expect!(c.enter(1, &Y) == Err(11));
-    expect!(c.counts() == Ok([363, 1, 1, 1, 0]));
-    let mut mean = [0i32; 7];
-    expect!(c.response(&mut r, &mut mean, &mut room) == 0);
-    expect!(r == R && mean == [2, 0, -1, 0, 0, 0, 0]);
-    expect!(c.summary(&mut room) == Ok(Some([2.0, -1.0, 2.0])));
-    expect!(c.withdraw(1) == 0 && c.withdraw(1) == 13);
-    expect!(c.response(&mut r, &mut mean, &mut room) == 14);
+fn campaigns(facts: &mut Facts) {
+    let (mut room, mut r, mut mean) = (Room::new(7), [0i64; 7], [0i32; 7]);
+    expect!(facts, Campaign::start(3, 3, 65, 366).0 == (9, UNTOLD));
+    expect!(facts, Campaign::start(3, 3, 2, 365).0 == (6, UNTOLD));
+    expect!(facts, Campaign::start(4, 15, 2, 365).0 == (4, 5));
+    let (answer, mut c) = Campaign::start(3, 3, 2, 366);
+    expect!(facts, answer == (0, 7));
+    expect!(facts, c.summary(&mut room) == Ok(None));
+    expect!(facts, c.enter(1, &Y) == Ok((1, 0)));
+    expect!(facts, c.enter(2, &[5; 7]) == Ok((3, 0)));
+    expect!(facts, c.enter(3, &[0, 0, 0, 8388607, 0, 0, 0]) == Ok((2, 3)));
+    expect!(facts, c.enter(1, &Y) == Err(11));
+    expect!(facts, c.counts() == Ok([363, 1, 1, 1, 0]));
+    expect!(facts, c.response(&mut r, &mut mean, &mut room) == 0);
+    expect!(facts, r == R && mean == H);
+    expect!(facts, c.summary(&mut room) == Ok(Some([2.0, -1.0, 2.0])));
+    expect!(facts, c.withdraw(1) == 0 && c.withdraw(1) == 13);
+    expect!(facts, c.response(&mut r, &mut mean, &mut room) == 14);
+}
 
+// What the six calls that tell a period answer to a register, all else being as they want it.
+fn each_call(order: u32, t: u32) -> [Told; 6] {
+    let p = length(order);
+    let (heard, mut bits, mut wide, mut y) = (vec![0; p], vec![0; p], vec![0; p], vec![0; p]);
+    let mut room = Room::new(p);
+    [
+        taps(order, t),
+        sequence(order, t, &mut bits),
+        recording(order, t, &heard, &mut wide, &mut room),
+        predict(order, t, &heard, &mut y),
+        predict_in_room(order, t, &heard, &mut y, &mut room.wide),
+        Campaign::start(order, t, 1, 366).0,
+    ]
+}
+
+fn periods(facts: &mut Facts) {
+    let refused = [(1, 3, (1, UNTOLD)), (17, 3, (1, UNTOLD)), (4, 16, (2, UNTOLD)), (4, 14, (3, UNTOLD))];
+    let short = [(4, 15, (4, 5)), (4, 5, (4, 6)), (3, 7, (4, 1)), (5, 3, (4, 21)), (16, 65535, (4, 17)), (16, 99, (4, 64897))];
+    let accepted = [(2, 3, (0, 3)), (4, 9, (0, 15)), (16, 45, (0, 65535))];
+    for (order, taps, answer) in refused.into_iter().chain(short).chain(accepted) {
+        let found = each_call(order, taps);
+        facts.push((format!("order {order}, taps {taps}: {answer:?}, not {found:?}"), found == [answer; 6]));
+    }
+}
+
+fn main() -> ExitCode {
+    let mut facts = Facts::new();
+    registers(&mut facts);
+    recordings(&mut facts);
+    campaigns(&mut facts);
+    periods(&mut facts);
     let wrong: Vec<_> = facts.iter().filter(|(_, held)| !held).collect();
     for (fact, _) in &wrong {
         println!("wrong: {fact}");

@@ -16,33 +16,54 @@ static void line(const char *call, const char *checks, uint32_t answer) {
     printf("%s: %s: %u\n", call, checks, answer);
 }
 
-/* ---- the calls that take order and taps ---- */
+/* The answer of a call that has a period, and the variable for it, which holds 7 before the call. */
+struct told {
+    uint32_t answer, period;
+};
+enum { UNWRITTEN = 99999 };
 
-static uint32_t sequence(uint32_t order, uint32_t taps, size_t n) {
-    uint8_t out[P];
-    return meter_sequence(order, taps, out, n);
+static void told_line(const char *call, const char *checks, struct told told) {
+    printf("%s: %s: %u %u\n", call, checks, told.answer, told.period);
 }
 
-static uint32_t recording(uint32_t order, uint32_t taps, int32_t first, size_t n, size_t out_len, size_t room_len, size_t tags_len) {
+/* ---- the calls that take order and taps ---- */
+
+static struct told taps_check(uint32_t order, uint32_t taps) {
+    uint32_t period = UNWRITTEN, answer = meter_taps(order, taps, &period);
+    return (struct told){answer, period};
+}
+
+static struct told sequence(uint32_t order, uint32_t taps, size_t n) {
+    uint8_t out[P];
+    uint32_t period = UNWRITTEN, answer = meter_sequence(order, taps, out, n, &period);
+    return (struct told){answer, period};
+}
+
+static struct told recording(uint32_t order, uint32_t taps, int32_t first, size_t n, size_t out_len, size_t room_len, size_t tags_len) {
     int32_t y[P] = {first};
     int64_t out[P], room[ROOM];
     uint16_t tags[TAGS];
-    return meter_recording(order, taps, y, n, out, out_len, room, room_len, tags, tags_len);
+    uint32_t period = UNWRITTEN, answer = meter_recording(order, taps, y, n, out, out_len, room, room_len, tags, tags_len, &period);
+    return (struct told){answer, period};
 }
 
-static uint32_t predict(uint32_t order, uint32_t taps, int32_t first, size_t n, size_t out_len) {
+static struct told predict(uint32_t order, uint32_t taps, int32_t first, size_t n, size_t out_len) {
     int32_t h[P] = {first}, out[P];
-    return meter_predict(order, taps, h, n, out, out_len);
+    uint32_t period = UNWRITTEN, answer = meter_predict(order, taps, h, n, out, out_len, &period);
+    return (struct told){answer, period};
 }
 
-static uint32_t predict_in_room(uint32_t order, uint32_t taps, int32_t first, size_t n, size_t out_len, size_t room_len) {
+static struct told predict_in_room(uint32_t order, uint32_t taps, int32_t first, size_t n, size_t out_len, size_t room_len) {
     int32_t h[P] = {first}, out[P];
     int64_t room[ROOM] = {1};
-    return meter_predict_in_room(order, taps, h, n, out, out_len, room, room_len);
+    uint32_t period = UNWRITTEN, answer = meter_predict_in_room(order, taps, h, n, out, out_len, room, room_len, &period);
+    return (struct told){answer, period};
 }
 
-static uint32_t start(uint32_t order, uint32_t taps, uint32_t count, size_t store_len, size_t sums_len) {
-    return meter_start(order, taps, count, days, METER_DAYS, slots, METER_SLOTS, store, store_len, sums, sums_len);
+static struct told start(uint32_t order, uint32_t taps, uint32_t count, size_t store_len, size_t sums_len) {
+    uint32_t period = UNWRITTEN;
+    uint32_t answer = meter_start(order, taps, count, days, METER_DAYS, slots, METER_SLOTS, store, store_len, sums, sums_len, &period);
+    return (struct told){answer, period};
 }
 
 static void players(uint32_t order, uint32_t taps, uint32_t window, const char *checks) {
@@ -65,12 +86,12 @@ static void registers(void) {
     for (size_t i = 0; i < 4; i++) {
         uint32_t order = shapes[i].order, taps = shapes[i].taps;
         const char *checks = shapes[i].checks;
-        line("taps", checks, meter_taps(order, taps));
-        line("sequence", checks, sequence(order, taps, P));
-        line("recording", checks, recording(order, taps, 1, P, P, ROOM, TAGS));
-        line("predict", checks, predict(order, taps, 1, P, P));
-        line("predict in a room", checks, predict_in_room(order, taps, 1, P, P, ROOM));
-        line("start", checks, start(order, taps, 1, P, P));
+        told_line("taps", checks, taps_check(order, taps));
+        told_line("sequence", checks, sequence(order, taps, P));
+        told_line("recording", checks, recording(order, taps, 1, P, P, ROOM, TAGS));
+        told_line("predict", checks, predict(order, taps, 1, P, P));
+        told_line("predict in a room", checks, predict_in_room(order, taps, 1, P, P, ROOM));
+        told_line("start", checks, start(order, taps, 1, P, P));
         if (i == 3)
             break;
         new_player(order, taps, checks);
@@ -78,31 +99,31 @@ static void registers(void) {
     }
     players(2, 2, 0, "3 before 16");
     players(2, 2, 4, "3 before 16");
-    line("sequence", "4 before 6", sequence(2, 1, P - 1));
+    told_line("sequence", "4 before 6", sequence(2, 1, P - 1));
 }
 
 /* A response of 8388608, 0, 0 predicts 8388608 at the last place. */
 static void recordings(void) {
-    line("recording", "4 before 5", recording(2, 1, 1, P - 1, P, ROOM, TAGS));
-    line("recording", "5 before 6", recording(2, 3, 1, P - 1, P - 1, ROOM, TAGS));
-    line("recording", "5 before 6", recording(2, 3, 1, P - 1, P, ROOM - 1, TAGS));
-    line("recording", "5 before 6", recording(2, 3, 1, P - 1, P, ROOM, TAGS - 1));
-    line("recording", "6 before 7", recording(2, 3, 8388608, P, P - 1, ROOM, TAGS));
-    line("recording", "6 before 7", recording(2, 3, 8388608, P, P, ROOM - 1, TAGS));
-    line("recording", "6 before 7", recording(2, 3, 8388608, P, P, ROOM, TAGS - 1));
-    line("predict", "4 before 5", predict(2, 1, 1, P - 1, P));
-    line("predict", "5 before 6", predict(2, 3, 1, P - 1, P - 1));
-    line("predict", "6 before 7", predict(2, 3, 8388608, P, P - 1));
-    line("predict", "7 before 8", predict(2, 3, 8388608, P, P));
-    line("predict in a room", "4 before 5", predict_in_room(2, 1, 1, P - 1, P, ROOM));
-    line("predict in a room", "5 before 6", predict_in_room(2, 3, 1, P - 1, P - 1, ROOM));
-    line("predict in a room", "5 before 6", predict_in_room(2, 3, 1, P - 1, P, ROOM - 1));
-    line("predict in a room", "6 before 7", predict_in_room(2, 3, 8388608, P, P - 1, ROOM));
-    line("predict in a room", "6 before 7", predict_in_room(2, 3, 8388608, P, P, ROOM - 1));
-    line("predict in a room", "7 before 8", predict_in_room(2, 3, 8388608, P, P, ROOM));
-    line("start", "4 before 9", start(2, 1, 0, P, P));
-    line("start", "9 before 6", start(2, 3, 65, 64 * P, P));
-    line("start", "9 before 6", start(2, 3, 0, P, P - 1));
+    told_line("recording", "4 before 5", recording(2, 1, 1, P - 1, P, ROOM, TAGS));
+    told_line("recording", "5 before 6", recording(2, 3, 1, P - 1, P - 1, ROOM, TAGS));
+    told_line("recording", "5 before 6", recording(2, 3, 1, P - 1, P, ROOM - 1, TAGS));
+    told_line("recording", "5 before 6", recording(2, 3, 1, P - 1, P, ROOM, TAGS - 1));
+    told_line("recording", "6 before 7", recording(2, 3, 8388608, P, P - 1, ROOM, TAGS));
+    told_line("recording", "6 before 7", recording(2, 3, 8388608, P, P, ROOM - 1, TAGS));
+    told_line("recording", "6 before 7", recording(2, 3, 8388608, P, P, ROOM, TAGS - 1));
+    told_line("predict", "4 before 5", predict(2, 1, 1, P - 1, P));
+    told_line("predict", "5 before 6", predict(2, 3, 1, P - 1, P - 1));
+    told_line("predict", "6 before 7", predict(2, 3, 8388608, P, P - 1));
+    told_line("predict", "7 before 8", predict(2, 3, 8388608, P, P));
+    told_line("predict in a room", "4 before 5", predict_in_room(2, 1, 1, P - 1, P, ROOM));
+    told_line("predict in a room", "5 before 6", predict_in_room(2, 3, 1, P - 1, P - 1, ROOM));
+    told_line("predict in a room", "5 before 6", predict_in_room(2, 3, 1, P - 1, P, ROOM - 1));
+    told_line("predict in a room", "6 before 7", predict_in_room(2, 3, 8388608, P, P - 1, ROOM));
+    told_line("predict in a room", "6 before 7", predict_in_room(2, 3, 8388608, P, P, ROOM - 1));
+    told_line("predict in a room", "7 before 8", predict_in_room(2, 3, 8388608, P, P, ROOM));
+    told_line("start", "4 before 9", start(2, 1, 0, P, P));
+    told_line("start", "9 before 6", start(2, 3, 65, 64 * P, P));
+    told_line("start", "9 before 6", start(2, 3, 0, P, P - 1));
 }
 
 /* ---- a campaign ---- */

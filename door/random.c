@@ -33,16 +33,47 @@ static uint32_t any_order(void) {
     return (uint32_t)(a < 5 ? 11 + below(6) : 2 + below(9));
 }
 
+static size_t period_of(uint32_t order) {
+    return order < 2 || order > 16 ? 7 : ((size_t)1 << order) - 1;
+}
+
+/* A register's first return to all ones: 1, one above 1 that divides P, one that does not, and P. Those before MAXIMAL are the short kinds. */
+enum { ONE, DIVIDING, NOT_DIVIDING, MAXIMAL };
+/* Stays at all ones at every order. */
+enum { STILL_TAPS = 1 };
+
+static uint64_t kind_of(uint32_t order, uint32_t taps) {
+    uint32_t ones = (uint32_t)period_of(order), window = ones, steps = 0;
+    do {
+        window = window >> 1 | (uint32_t)__builtin_parity(window & taps) << (order - 1);
+        steps++;
+    } while (window != ones);
+    return steps == ones ? MAXIMAL : steps == 1 ? ONE : ones % steps == 0 ? DIVIDING : NOT_DIVIDING;
+}
+
+/* The first taps of a drawn short kind from drawn ones on, going round; taps that stay at all ones where the order has none of the kind. */
+static uint32_t short_taps(uint32_t order) {
+    uint64_t kind = below(MAXIMAL), odd_taps = (uint64_t)1 << (order - 1), from = below(odd_taps);
+    for (uint64_t i = 0; i < odd_taps; i++) {
+        uint32_t taps = (uint32_t)(2 * ((from + i) % odd_taps) + 1);
+        if (kind_of(order, taps) == kind)
+            return taps;
+    }
+    return STILL_TAPS;
+}
+
 static uint32_t any_taps(uint32_t order) {
     if (order < 2 || order > 16)
         return (uint32_t)below(65536);
-    uint64_t all = (uint64_t)1 << order, b = below(12);
+    uint64_t all = (uint64_t)1 << order, b = below(16);
     if (b == 0)
         return (uint32_t)(all + below(4));
     if (b == 1)
         return (uint32_t)(2 * below(all / 2));
     if (b < 4)
         return (uint32_t)below(all);
+    if (b < 7)
+        return short_taps(order);
     uint32_t taps = 0;
     meter_default_taps(order, &taps);
     return taps;
@@ -51,10 +82,6 @@ static uint32_t any_taps(uint32_t order) {
 static size_t near(size_t n) {
     uint64_t c = below(12);
     return c == 0 ? n - 1 : c < 7 ? n : n + below(5);
-}
-
-static size_t period_of(uint32_t order) {
-    return order < 2 || order > 16 ? 7 : ((size_t)1 << order) - 1;
 }
 
 static void draw_samples(int32_t *y, size_t n) {
@@ -96,19 +123,23 @@ DIGEST(signs_digest, int8_t)
 
 static uint64_t number;
 
+/* What the variable for a period holds before the call, so that a period which is wrongly written or not written shows. */
+enum { UNWRITTEN = 99999 };
+
 static void taps_case(void) {
-    uint32_t order = any_order(), taps = any_taps(order), found = 7;
-    printf("%" PRIu64 " taps %u\n", number, meter_taps(order, taps));
-    uint32_t answer = meter_default_taps(order, &found);
+    uint32_t order = any_order(), taps = any_taps(order), period = UNWRITTEN, found = 7;
+    uint32_t answer = meter_taps(order, taps, &period);
+    printf("%" PRIu64 " taps %u %u\n", number, answer, period);
+    answer = meter_default_taps(order, &found);
     printf("%" PRIu64 " default %u %u\n", number, answer, found);
 }
 
 static void sequence_case(void) {
-    uint32_t order = any_order(), taps = any_taps(order);
+    uint32_t order = any_order(), taps = any_taps(order), period = UNWRITTEN;
     size_t n = near(period_of(order));
     FILLED(uint8_t, out, n);
-    uint32_t answer = meter_sequence(order, taps, out, n);
-    printf("%" PRIu64 " sequence %u %" PRId64 "\n", number, answer, d8(out, n));
+    uint32_t answer = meter_sequence(order, taps, out, n, &period);
+    printf("%" PRIu64 " sequence %u %u %" PRId64 "\n", number, answer, period, d8(out, n));
     free(out);
 }
 
@@ -133,15 +164,15 @@ static void player_case(void) {
 }
 
 static void recording_case(void) {
-    uint32_t order = any_order(), taps = any_taps(order);
+    uint32_t order = any_order(), taps = any_taps(order), period = UNWRITTEN;
     size_t p = period_of(order), n = near(p), a = near(p), b = near(p + 1), c = near(2 * p);
     FILLED(int32_t, y, n);
     FILLED(int64_t, out, a);
     FILLED(int64_t, room, b);
     FILLED(uint16_t, tags, c);
     draw_samples(y, n);
-    uint32_t answer = meter_recording(order, taps, y, n, out, a, room, b, tags, c);
-    printf("%" PRIu64 " recording %u %" PRId64 " %" PRId64 " %" PRId64 "\n", number, answer, d64(out, a), d64(room, b), d16(tags, c));
+    uint32_t answer = meter_recording(order, taps, y, n, out, a, room, b, tags, c, &period);
+    printf("%" PRIu64 " recording %u %u %" PRId64 " %" PRId64 " %" PRId64 "\n", number, answer, period, d64(out, a), d64(room, b), d16(tags, c));
     free(y);
     free(out);
     free(room);
@@ -149,20 +180,20 @@ static void recording_case(void) {
 }
 
 static void predict_case(void) {
-    uint32_t order = any_order(), taps = any_taps(order);
+    uint32_t order = any_order(), taps = any_taps(order), period = UNWRITTEN;
     size_t p = period_of(order), n = near(p), a = near(p);
     FILLED(int32_t, h, n);
     FILLED(int32_t, out, a);
     draw_samples(h, n);
-    uint32_t answer = meter_predict(order, taps, h, n, out, a);
-    printf("%" PRIu64 " predict %u %" PRId64 "\n", number, answer, d32(out, a));
+    uint32_t answer = meter_predict(order, taps, h, n, out, a, &period);
+    printf("%" PRIu64 " predict %u %u %" PRId64 "\n", number, answer, period, d32(out, a));
     free(h);
     free(out);
 }
 
 /* The room holds zeros in every second case, and in all of the long orders, where another takes P * P steps. */
 static void predict_in_room_case(void) {
-    uint32_t order = any_order(), taps = any_taps(order);
+    uint32_t order = any_order(), taps = any_taps(order), period = UNWRITTEN;
     size_t p = period_of(order), n = near(p), a = near(p), b = near(p + 1);
     FILLED(int32_t, h, n);
     FILLED(int32_t, out, a);
@@ -170,8 +201,8 @@ static void predict_in_room_case(void) {
     if (below(2) == 0 || order > 12)
         memset(room, 0, b * sizeof *room);
     draw_samples(h, n);
-    uint32_t answer = meter_predict_in_room(order, taps, h, n, out, a, room, b);
-    printf("%" PRIu64 " predict in a room %u %" PRId64 " %" PRId64 "\n", number, answer, d32(out, a), d64(room, b));
+    uint32_t answer = meter_predict_in_room(order, taps, h, n, out, a, room, b, &period);
+    printf("%" PRIu64 " predict in a room %u %u %" PRId64 " %" PRId64 "\n", number, answer, period, d32(out, a), d64(room, b));
     free(h);
     free(out);
     free(room);
@@ -314,8 +345,8 @@ static void campaign_case(void) {
     FILLED(int32_t, store, store_len);
     FILLED(int64_t, sums, sums_len);
     struct held campaign = {order, taps, count, days, slots, store, sums, days_len, slots_len, store_len, sums_len}, *c = &campaign;
-    uint32_t answer = meter_start(RECORD);
-    printf("%" PRIu64 " start %u " MEMORY_PRINTED, number, answer, MEMORY);
+    uint32_t period = UNWRITTEN, answer = meter_start(RECORD, &period);
+    printf("%" PRIu64 " start %u %u " MEMORY_PRINTED, number, answer, period, MEMORY);
     for (uint64_t steps = order >= 12 ? 2 + below(3) : 3 + below(12); steps > 0; steps--) {
         uint64_t what = below(10);
         struct damage d = damaged(c);

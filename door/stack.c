@@ -18,17 +18,17 @@ static int32_t h[MOST_P], out[MOST_P];
 static int64_t room[MOST_P + 1];
 static int wrong;
 
-/* The call that is made on the painted stack, and its answer. */
+/* The call that is made on the painted stack, and its answer with the period. */
 static struct { uint32_t order, taps; size_t h_len, out_len, room_len; int lent, none; } call;
-static uint32_t answer;
+static uint32_t answer, period;
 
 static void make(void) {
     if (call.none)
         answer = 0;
     else if (call.lent)
-        answer = meter_predict_in_room(call.order, call.taps, h, call.h_len, out, call.out_len, room, call.room_len);
+        answer = meter_predict_in_room(call.order, call.taps, h, call.h_len, out, call.out_len, room, call.room_len, &period);
     else
-        answer = meter_predict(call.order, call.taps, h, call.h_len, out, call.out_len);
+        answer = meter_predict(call.order, call.taps, h, call.h_len, out, call.out_len, &period);
 }
 
 static size_t used(void) {

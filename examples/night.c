@@ -1,16 +1,27 @@
-/* A campaign of order 3 with 2 slots, from C: three nights are entered, and the mean of those that stand is printed. */
+/* A campaign of order 3 with 2 slots, from C: its taps are mistyped once, three nights are entered, and the mean of those that stand is printed. */
 #include "meter.h"
 #include <inttypes.h>
 #include <stdio.h>
 
-enum { ORDER = 3, TAPS = 3, P = 7, SLOT_COUNT = 2 };
+enum { ORDER = 3, TAPS = 3, MISTYPED = 7, P = 7, SLOT_COUNT = 2 };
 
 static uint8_t days[METER_DAYS];
 static uint16_t slots[METER_SLOTS];
 static int32_t store[SLOT_COUNT * P];
 static int64_t sums[P];
 
-#define CAMPAIGN ORDER, TAPS, SLOT_COUNT, days, METER_DAYS, slots, METER_SLOTS, store, SLOT_COUNT * P, sums, P
+#define MEMORY days, METER_DAYS, slots, METER_SLOTS, store, SLOT_COUNT * P, sums, P
+#define CAMPAIGN ORDER, TAPS, SLOT_COUNT, MEMORY
+
+static uint32_t start(uint32_t taps) {
+    uint32_t period = 0;
+    uint32_t answer = meter_start(ORDER, taps, SLOT_COUNT, MEMORY, &period);
+    printf("taps %" PRIu32 ": %s", taps, meter_explain(answer));
+    if (answer == METER_NOT_MAXIMAL)
+        printf(", back after %" PRIu32 " of %d steps", period, P);
+    printf("\n");
+    return answer;
+}
 
 static void enter(uint32_t day, const int32_t *y) {
     static const char *const verdicts[] = {"", "kept", "overloaded", "dead"};
@@ -25,7 +36,8 @@ int main(void) {
     int64_t r[P], room[P + 1];
     int32_t mean[P];
     uint16_t tags[2 * P];
-    uint32_t answer = meter_start(CAMPAIGN);
+    start(MISTYPED);
+    uint32_t answer = start(TAPS);
     if (answer == METER_ACCEPTED) {
         enter(1, heard);
         enter(2, still);

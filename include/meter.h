@@ -2,8 +2,11 @@
  *
  * Each function but meter_explain answers 0 or a refusal's number, and its comment has the numbers in the order of its checks. A refused call leaves
  * all that it was lent as it was. docs/MANUAL.md explains every call.
+ * A function that can refuse with 4 has a last parameter `period`, the number of steps after which the register first returns to all ones. Accepted,
+ * the call writes P there; refused with 4, the number, which is below P; at any other refusal it leaves it as it was. The period is part of the answer
+ * and not of what is lent: refused with 4, a call writes it and nothing else. Only that refusal counts the steps, fewer than P of them.
  * A slice is a pointer and a length in elements. A pointer is never NULL, is aligned for its element, and what two
- * pointers of one call lend does not overlap, unless both are const. Nothing is kept after the call.
+ * pointers of one call point to does not overlap, unless both are const. Nothing is kept after the call.
  * P is 2^order - 1. Samples are -8388608 to 8388607. What is lent beyond the lengths named here is never changed.
  */
 #ifndef METER_H
@@ -71,14 +74,14 @@ static inline const char *meter_explain(uint32_t n) {
 
 /* ---- the register ---- */
 
-/* Whether the taps are maximal for the order: 1, 2, 3, 4. */
-uint32_t meter_taps(uint32_t order, uint32_t taps);
+/* Whether the taps are maximal for the order, and the period: 1, 2, 3, 4. */
+uint32_t meter_taps(uint32_t order, uint32_t taps, uint32_t *period);
 
 /* The order's default taps: 1. */
 uint32_t meter_default_taps(uint32_t order, uint32_t *taps);
 
 /* The bits s(0) to s(P-1): 1, 2, 3, 4, 6. */
-uint32_t meter_sequence(uint32_t order, uint32_t taps, uint8_t *out, size_t out_len);
+uint32_t meter_sequence(uint32_t order, uint32_t taps, uint8_t *out, size_t out_len, uint32_t *period);
 
 /* A player of this order and these taps, as its four numbers: 1, 2, 3. */
 uint32_t meter_player_new(uint32_t order, uint32_t taps,
@@ -96,17 +99,18 @@ uint32_t meter_player_play(uint32_t *order, uint32_t *taps, uint32_t *window, ui
 /* The response r(0) to r(P-1) of a recording of P samples. The room is P+1 wide numbers and 2P tags; it holds zeros after it:
  * 1 to 7. */
 uint32_t meter_recording(uint32_t order, uint32_t taps, const int32_t *y, size_t y_len, int64_t *out, size_t out_len,
-                         int64_t *room, size_t room_len, uint16_t *tags, size_t tags_len);
+                         int64_t *room, size_t room_len, uint16_t *tags, size_t tags_len, uint32_t *period);
 
 /* The recording predicted from a response of P samples: 1 to 8. Its room is on the stack: it takes at most 40 KB up to order 12 and 520 KB from
  * order 13, and refused with 1 to 7 at most 1 KB. */
-uint32_t meter_predict(uint32_t order, uint32_t taps, const int32_t *h, size_t h_len, int32_t *out, size_t out_len);
+uint32_t meter_predict(uint32_t order, uint32_t taps, const int32_t *h, size_t h_len, int32_t *out, size_t out_len,
+                       uint32_t *period);
 
 /* The same in a lent room of P+1 wide numbers, 6 also where that is short, with at most 2 KB of stack at every order. The room holds zeros after it.
  * Lend a room of zeros, which every call then leaves so: of any other, which a refusal has to leave as it was, 8 is found without it where the sizes
  * of h add up to more than 8388607, in P * P steps. On a PC these took 0.07 seconds at order 12 and 19 at order 16. */
 uint32_t meter_predict_in_room(uint32_t order, uint32_t taps, const int32_t *h, size_t h_len, int32_t *out, size_t out_len,
-                               int64_t *room, size_t room_len);
+                               int64_t *room, size_t room_len, uint32_t *period);
 
 /* ---- a campaign: the record is order, taps and capacity, which no call changes, and the two tables `days` (366) and `slots` (64).
  * A shorter table is room too short at a start, 6 in its place; every other call refuses it with 15 before all else. The store is
@@ -114,7 +118,8 @@ uint32_t meter_predict_in_room(uint32_t order, uint32_t taps, const int32_t *h, 
 
 /* Every day unseen, every slot free, zeros in the store and the sums: 1, 2, 3, 4, 9, 6. */
 uint32_t meter_start(uint32_t order, uint32_t taps, uint32_t capacity, uint8_t *days, size_t days_len,
-                     uint16_t *slots, size_t slots_len, int32_t *store, size_t store_len, int64_t *sums, size_t sums_len);
+                     uint16_t *slots, size_t slots_len, int32_t *store, size_t store_len, int64_t *sums, size_t sums_len,
+                     uint32_t *period);
 
 /* A day's recording judged: 15, 10, 5, 7, 11, and 12 after the verdict. `state` is the state that the verdict gives the day, and `value` the slot
  * of one that stands, the first place at a rail of one that is overloaded, 0 of one that is dead. */

@@ -6,13 +6,14 @@ It calls nothing of the core. `meter.Campaign` keeps a ledger of the calls made 
 from typing import NamedTuple, Optional
 
 STATES = ("unseen", "standing", "overloaded", "dead", "withdrawn")
+NOT_MAXIMAL = 4
 
 # Document 01, "Refusal numbers".
 CAUSES = {
     1: "order below 2 or above 16",
     2: "taps not below 2^N",
     3: "tap 0 clear",
-    4: "register not maximal",
+    NOT_MAXIMAL: "register not maximal",
     5: "recording or response not exactly P long",
     6: "output or working room too short",
     7: "a value outside the sample range",
@@ -37,12 +38,19 @@ def explain(number):
 def refusal(number, detail=None):
     """A refusal in document 01's words, with the numbers at hand where they say more."""
     words = f"{number}: {explain(number)}"
-    return f"{words} ({detail})" if detail else words
+    if not detail:
+        return words
+    return f"{words}: {detail}" if number == NOT_MAXIMAL else f"{words} ({detail})"
 
 
-def details(period, given, capacity=None):
-    """The numbers at hand of a recording given, by the refusal whose words leave them unsaid."""
-    return {5: f"P is {period}, {given} given", 12: f"C is {capacity}"}
+def how_short(period, length):
+    """The detail of a register that is not maximal: it returns after its period, where a maximal one takes the whole length P."""
+    return f"it returns after {period} {'step' if period == 1 else 'steps'} of {length}"
+
+
+def details(length, given, capacity=None):
+    """The numbers at hand of a recording given where P samples are wanted, by the refusal whose words leave them unsaid."""
+    return {5: f"P is {length}, {given} given", 12: f"C is {capacity}"}
 
 
 class Note(NamedTuple):

@@ -4,8 +4,9 @@
     python3 python/example.py           # from a list of nights to the nights that are not in the mean, and the mean
 
 The shared object is linked from that archive at the first import, by `cc`; METER_LIBRARY names another. Samples are whole numbers
-from -8388608 to 8388607; any sequence of them will do. A refused call raises `Refused`, with document 01's number, and changes nothing;
-`explain` has every answer in words. A `Campaign` notes its refused calls in a ledger, and `not_in_mean()` says which nights are missing and why.
+from -8388608 to 8388607; any sequence of them will do. A refused call raises `Refused`, with document 01's number, and changes nothing; taps that
+are not maximal are refused with the number of steps after which their register returns. `explain` has every answer in words.
+A `Campaign` notes its refused calls in a ledger, and `not_in_mean()` says which nights are missing and why.
 """
 
 import contextlib
@@ -17,18 +18,19 @@ import subprocess
 import tempfile
 from typing import NamedTuple, Optional
 
-from ledger import STATES, Ledger, details, explain, refusal
+from ledger import NOT_MAXIMAL, STATES, Ledger, details, explain, how_short, refusal
 
 DAYS = 366
 SLOTS = 64
 
 
 class Refused(Exception):
-    """A call's refusal: `number` is document 01's, `detail` the numbers at hand where they say more."""
+    """A call's refusal: `number` is document 01's, `detail` the numbers at hand where they say more, and `period`, where the number is 4, the steps
+    after which the register first returns to all ones; it is None elsewhere."""
 
-    def __init__(self, number, detail=None):
-        super().__init__(number, detail)
-        self.number, self.detail = number, detail
+    def __init__(self, number, detail=None, period=None):
+        super().__init__(number, detail, period)
+        self.number, self.detail, self.period = number, detail, period
 
     def __str__(self):
         return refusal(self.number, self.detail)
@@ -84,16 +86,17 @@ def _types(*kinds):
 
 _RECORD = (_u32, _u32, _u32, [ctypes.c_uint8], [ctypes.c_uint16], [_i32], [ctypes.c_int64])
 _ROOM = ([ctypes.c_int64], [ctypes.c_uint16])
+_PERIOD = _P(_u32)
 for _name, _kinds in {
-    "taps": (_u32, _u32),
+    "taps": (_u32, _u32, _PERIOD),
     "default_taps": (_u32, _P(_u32)),
-    "sequence": (_u32, _u32, [ctypes.c_uint8]),
+    "sequence": (_u32, _u32, [ctypes.c_uint8], _PERIOD),
     "player_new": (_u32, _u32, *[_P(_u32)] * 4),
     "player_step": (*[_P(_u32)] * 4, _P(_i32)),
     "player_play": (*[_P(_u32)] * 4, [ctypes.c_int8]),
-    "recording": (_u32, _u32, [_i32], [ctypes.c_int64], *_ROOM),
-    "predict": (_u32, _u32, [_i32], [_i32]),
-    "start": _RECORD,
+    "recording": (_u32, _u32, [_i32], [ctypes.c_int64], *_ROOM, _PERIOD),
+    "predict": (_u32, _u32, [_i32], [_i32], _PERIOD),
+    "start": (*_RECORD, _PERIOD),
     "enter": (*_RECORD, _u32, [_i32], _P(_u32), _P(_size)),
     "withdraw": (*_RECORD, _u32),
     "counts": (*_RECORD, *[_P(_u32)] * 5),
@@ -104,8 +107,8 @@ for _name, _kinds in {
     _function.argtypes, _function.restype = _types(*_kinds), _u32
 
 
-def _call(name, *arguments, told={}):
-    """Calls meter_NAME: an array goes as a pointer and a length, a lent number by reference. Raises on a refusal, with what is told of its number."""
+def _answer(name, *arguments):
+    """What meter_NAME answers: an array goes as a pointer and a length, a lent number by reference."""
     flat = []
     for a in arguments:
         if isinstance(a, ctypes.Array):
@@ -114,9 +117,25 @@ def _call(name, *arguments, told={}):
             flat.append(ctypes.byref(a))
         else:
             flat.append(a)
-    answer = getattr(_door, "meter_" + name)(*flat)
+    return getattr(_door, "meter_" + name)(*flat)
+
+
+def _call(name, *arguments, told={}):
+    """Calls meter_NAME. Raises on a refusal, with what is told of its number."""
+    answer = _answer(name, *arguments)
     if answer != 0:
         raise Refused(answer, told.get(answer))
+
+
+def _call_maximal(name, order, *arguments, told={}):
+    """Calls meter_NAME, which wants maximal taps, and gives their period, P. Raises as `_call` does, at 4 with the period that there is."""
+    period = _u32()
+    answer = _answer(name, order, *arguments, period)
+    if answer == NOT_MAXIMAL:
+        raise Refused(answer, how_short(period.value, _length(order)), period.value)
+    if answer != 0:
+        raise Refused(answer, told.get(answer))
+    return period.value
 
 
 # ---- what is handed to C
@@ -152,13 +171,13 @@ def _register(order, taps):
     return order, default_taps(order) if taps is None else _number(taps, "taps")
 
 
-def _period(order):
+def _length(order):
     """P, or the least place for an order that the call will refuse."""
     return (1 << order) - 1 if 2 <= order <= 16 else 1
 
 
 def _room(order):
-    p = _period(order)
+    p = _length(order)
     return (ctypes.c_int64 * (p + 1))(), (ctypes.c_uint16 * (2 * p))()
 
 
@@ -166,12 +185,9 @@ def _room(order):
 
 
 def check_taps(order, taps):
-    """Whether the taps are maximal for the order; why not is what `Refused` of any other call says."""
-    try:
-        _call("taps", _number(order, "order"), _number(taps, "taps"))
-    except Refused:
-        return False
-    return True
+    """The steps after which the register first returns to all ones: P, since taps that are not maximal are refused, with the fewer steps in
+    `Refused.period`."""
+    return _call_maximal("taps", _number(order, "order"), _number(taps, "taps"))
 
 
 def default_taps(order):
@@ -184,8 +200,8 @@ def default_taps(order):
 def sequence(order, taps=None):
     """The bits s(0) to s(P-1)."""
     order, taps = _register(order, taps)
-    bits = (ctypes.c_uint8 * _period(order))()
-    _call("sequence", order, taps, bits)
+    bits = (ctypes.c_uint8 * _length(order))()
+    _call_maximal("sequence", order, taps, bits)
     return list(bits)
 
 
@@ -223,16 +239,16 @@ class Player:
 def recording(y, order, taps=None):
     """The response r(0) to r(P-1) of a recording of P samples, as whole numbers: (P+1) times the impulse response, where y is one played."""
     (order, taps), y = _register(order, taps), _samples(y, "y")
-    out = (ctypes.c_int64 * _period(order))()
-    _call("recording", order, taps, y, out, *_room(order), told=details(_period(order), len(y)))
+    out = (ctypes.c_int64 * _length(order))()
+    _call_maximal("recording", order, taps, y, out, *_room(order), told=details(_length(order), len(y)))
     return list(out)
 
 
 def predict(h, order, taps=None):
     """The recording predicted from a response of P samples."""
     (order, taps), h = _register(order, taps), _samples(h, "h")
-    out = (_i32 * _period(order))()
-    _call("predict", order, taps, h, out, told=details(_period(order), len(h)))
+    out = (_i32 * _length(order))()
+    _call_maximal("predict", order, taps, h, out, told=details(_length(order), len(h)))
     return list(out)
 
 
@@ -244,11 +260,11 @@ class Campaign:
 
     def __init__(self, order, taps=None, capacity=SLOTS):
         self._numbers = (*_register(order, taps), _number(capacity, "capacity"))
-        p, room = _period(self.order), max(1, min(self._numbers[2], SLOTS))
+        p, room = _length(self.order), max(1, min(self._numbers[2], SLOTS))
         self._tables = (ctypes.c_uint8 * DAYS)(), (ctypes.c_uint16 * SLOTS)()
         self._lent = (_i32 * (room * p))(), (ctypes.c_int64 * p)()
         self.ledger = Ledger()
-        _call("start", *self._record())
+        _call_maximal("start", *self._record())
 
     @property
     def order(self):
@@ -274,7 +290,7 @@ class Campaign:
         day, state, value = _whole(day, "day"), _u32(), _size()
         with self._noting("enter", day):
             y = _samples(y, "y")
-            told = details(_period(self.order), len(y), self._numbers[2])
+            told = details(_length(self.order), len(y), self._numbers[2])
             _call("enter", *self._record(), _number(day, "day"), y, state, value, told=told)
         verdict = Verdict(STATES[state.value], value.value)
         self.ledger.accepted("enter", day, verdict.state, verdict.value if verdict.state == "overloaded" else None)
@@ -307,7 +323,7 @@ class Campaign:
 
     def response(self):
         """r worked from the sums of the standing days, and the mean over them."""
-        p = _period(self.order)
+        p = _length(self.order)
         r, mean = (ctypes.c_int64 * p)(), (_i32 * p)()
         _call("response", *self._record(), r, mean, *_room(self.order))
         return list(r), list(mean)

@@ -12,7 +12,7 @@ import pathlib
 import re
 import sys
 
-from ledger import STATES, Ledger, details, refusal
+from ledger import NOT_MAXIMAL, STATES, Ledger, details, how_short, refusal
 
 sys.path.append(str(pathlib.Path(__file__).resolve().parent.parent / "logs"))
 from items import ASK, ENTER, OPEN, SAMPLE, START, WITHDRAW, decode
@@ -33,12 +33,12 @@ class Reader:
         self.log, self.at = log, 0
         self.lines, self.taken = lines, 0
         self.ledger, self.responses, self.counted = Ledger(), 0, 0
-        self.period = self.capacity = self.day = self.samples = None
+        self.length = self.capacity = self.day = self.samples = None
         self.stopped = ""
         self.takes = {START: self.start, OPEN: self.open, SAMPLE: self.sample, ENTER: self.enter, WITHDRAW: self.withdraw, ASK: self.ask}
 
     def line(self, begins, numbers, ends=""):
-        """The numbers of the next line, which has to begin with these words, and its last word where it has to end with one."""
+        """The numbers of the next line, which has to begin with these words, and its last word where it may end with one."""
         if self.taken == len(self.lines):
             raise Fault(f"the lines end where `{begins} ..` is due, for byte {self.at} of the log")
         line = self.lines[self.taken]
@@ -62,10 +62,13 @@ class Reader:
     # ---- the items
 
     def start(self, order, taps, capacity):
-        (answer,) = self.line("start", 1)
-        self.period, self.capacity = (1 << order) - 1, capacity
+        answer, told = self.line("start", 1, "(?: ([0-9]{1,5}))?")
+        self.length, self.capacity = (1 << order) - 1, capacity
+        self.hold((answer == NOT_MAXIMAL) == (told is not None), "a period stands after 4 and nowhere else")
+        self.hold(told is None or 0 < int(told) < self.length, f"a short register returns after 1 to {self.length - 1} steps there")
         if answer != 0:
-            self.stopped = f"the start was refused {refusal(answer)}; no night was read"
+            detail = how_short(int(told), self.length) if told else None
+            self.stopped = f"the start was refused {refusal(answer, detail)}; no night was read"
 
     def open(self, day):
         self.day, self.samples = day, []
@@ -79,7 +82,7 @@ class Reader:
         self.hold((answer == 0) == (verdict in VERDICTS), "the answer and the verdict do not go together")
         self.hold_standing(answer != (0 if self.stands(day) else DAY_STANDING), day)
         if answer != 0:
-            detail = details(self.period, len(self.samples), self.capacity).get(answer)
+            detail = details(self.length, len(self.samples), self.capacity).get(answer)
             self.ledger.refused("enter", day, refusal(answer, detail))
             return
         place = next((k for k, value in enumerate(self.samples) if value in RAILS), None)
@@ -100,7 +103,7 @@ class Reader:
         self.hold(counts == list(tally.values()), f"the lines before it count {said(tally)}")
         self.hold(answer == (0 if tally["standing"] else NOTHING_STANDING), f"{tally['standing']} days stand")
         if answer == 0:
-            for k in range(self.period):
+            for k in range(self.length):
                 self.line(str(k), 2)
         self.responses, self.counted = self.responses + 1, len(self.ledger.notes)
 
@@ -108,11 +111,11 @@ class Reader:
 
     def allowed(self):
         """The kinds that may stand here."""
-        if self.period is None:
+        if self.length is None:
             return (START,)
         if self.day is None:
             return (OPEN, WITHDRAW, ASK)
-        return (ENTER,) if len(self.samples) == self.period else (SAMPLE, ENTER)
+        return (ENTER,) if len(self.samples) == self.length else (SAMPLE, ENTER)
 
     def bad(self):
         (offset,) = self.line("bad", 1)

@@ -1,4 +1,4 @@
-"""Tries every call of meter.py on document 01's numbers and on its order of checks, the ledger of nights, and the example."""
+"""Tries every call of meter.py on document 01's numbers and on its order of checks, the periods that it tells, the ledger of nights, and the example."""
 import os
 import pathlib
 import pickle
@@ -29,8 +29,8 @@ class Case(unittest.TestCase):
 
 class Calls(Case):
     def test_register(self):
-        self.assertTrue(meter.check_taps(2, 3))
-        self.assertFalse(meter.check_taps(4, 15))
+        self.assertEqual([meter.check_taps(*register) for register in [(2, 3), (3, 5), (4, 9), (16, 45)]], [3, 7, 15, 65535])
+        self.refused(2, meter.check_taps, 4, 2**32 + 9)
         self.assertEqual([meter.default_taps(n) for n in range(2, 17)], [3, 3, 3, 5, 3, 3, 29, 17, 9, 5, 83, 27, 43, 3, 45])
         self.refused(1, meter.default_taps, 17)
         self.refused(1, meter.sequence, -1, 3)
@@ -72,6 +72,50 @@ class Calls(Case):
         self.refused(15, c.counts)
 
 
+# Registers that are not maximal: order, taps, and the steps after which they return.
+SHORT = [(4, 15, 5), (4, 5, 6), (3, 7, 1), (5, 3, 21), (16, 65535, 17), (16, 99, 64897)]
+
+
+class Periods(Case):
+    def test_every_call_tells_how_short(self):
+        for order, taps, period in SHORT:
+            zeros = [0] * (2**order - 1)
+            for call, *arguments in [
+                (meter.check_taps, order, taps),
+                (meter.sequence, order, taps),
+                (meter.recording, zeros, order, taps),
+                (meter.predict, zeros, order, taps),
+                (meter.Campaign, order, taps),
+                (meter.trend, [], order, taps),
+            ]:
+                with self.assertRaises(meter.Refused, msg=(call, taps)) as met:
+                    call(*arguments)
+                self.assertEqual((met.exception.number, met.exception.period), (4, period), msg=(call, taps))
+
+    def test_the_words(self):
+        self.assertEqual(self.refused(4, meter.Campaign, 4, 15), "4: register not maximal: it returns after 5 steps of 15")
+        self.assertEqual(self.refused(4, meter.check_taps, 3, 7), "4: register not maximal: it returns after 1 step of 7")
+        shown = f"{meter.check_taps(4, 9)}\n>>> meter.check_taps(4, 15)\nmeter.Refused: {self.refused(4, meter.check_taps, 4, 15)}\n"
+        self.assertIn(">>> meter.check_taps(4, 9)\n" + shown, (here.parent / "docs/MANUAL.md").read_text())
+
+    def test_any_other_refusal_tells_none(self):
+        c = meter.Campaign(3)
+        for number, call, *arguments in [
+            (1, meter.check_taps, 17, 3),
+            (2, meter.sequence, 4, 16),
+            (3, meter.Campaign, 4, 14),
+            (5, meter.recording, Y[:6], 3),
+            (7, meter.predict, [BEYOND] * 7, 3),
+            (8, meter.predict, [8388607, 8388607, 0, 0, 0, 0, 0], 3),
+            (9, meter.Campaign, 3, 3, 65),
+            (10, c.enter, 367, Y),
+            (14, c.response),
+        ]:
+            with self.assertRaises(meter.Refused) as met:
+                call(*arguments)
+            self.assertEqual((met.exception.number, met.exception.period), (number, None))
+
+
 class Refusals(Case):
     def test_a_sample_beyond_32_bits_is_refused_in_its_own_place(self):
         for value in (BEYOND, -BEYOND - 1, 2**32, -(2**40)):
@@ -101,6 +145,10 @@ class Refusals(Case):
             meter.recording(Y[:6], 3)
         again = pickle.loads(pickle.dumps(met.exception))
         self.assertEqual((again.number, str(again)), (5, str(met.exception)))
+        with self.assertRaises(meter.Refused) as met:
+            meter.sequence(4, 15)
+        again = pickle.loads(pickle.dumps(met.exception))
+        self.assertEqual((again.number, again.period, str(again)), (4, 5, str(met.exception)))
 
     def test_a_wrong_type_names_its_parameter(self):
         c = meter.Campaign(3)

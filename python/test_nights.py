@@ -60,6 +60,7 @@ class Tables(unittest.TestCase):
                 "order-10": "the start was refused 17: the program only: order above 9 or slots above 8; no night was read",
                 "order-17": "the start was refused 1: order below 2 or above 16; no night was read",
                 "paper": "standing 0, overloaded 0, dead 1, withdrawn 1; response lines that agree: 2",
+                "short": "the start was refused 4: register not maximal: it returns after 5 steps of 15; no night was read",
                 "year": "standing 3, overloaded 0, dead 2, withdrawn 2; response lines that agree: 3",
             },
         )
@@ -150,6 +151,14 @@ class OtherLines(unittest.TestCase):
         ]:
             with self.assertRaisesRegex(nights.Fault, f": {why}$", msg=lines):
                 table(make.log_from_text("start 3 3 2\n" + text), b"start 0\n" + lines.encode())
+
+    def test_starts_that_cannot_be(self):
+        alone, within = "a period stands after 4 and nowhere else", "a short register returns after 1 to 14 steps there"
+        for lines, why in [("start 4", alone), ("start 0 15", alone), ("start 9 5", alone), ("start 4 0", within), ("start 4 15", within)]:
+            with self.assertRaisesRegex(nights.Fault, f"`: {why}$", msg=lines):
+                table(make.log_from_text("start 4 15 1\n"), lines.encode() + b"\n")
+        for lines in (b"start 4 5 5\n", b"start 4 -5\n", b"start 4 5\nbad 5\n"):
+            self.refuses(make.log_from_text("start 4 15 1\n"), lines)
 
     def test_it_says_so_and_prints_no_table(self):
         with tempfile.TemporaryDirectory() as room:

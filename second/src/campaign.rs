@@ -1,7 +1,7 @@
 //! A campaign's record, the memory lent to it, and its start.
 
 use crate::holding::holds_together;
-use crate::refusal::*;
+use crate::refusal::Refusal;
 use crate::register::{check_taps, period};
 
 pub const DAYS: usize = 366;
@@ -34,16 +34,16 @@ pub struct Lent {
     pub sums: Vec<i64>,
 }
 
-/// Refusals 1, 2, 3, 4, 9: what a start asks before any memory is looked at.
-pub fn check_start(order: u32, taps: u32, slots: u32) -> Result<(), Refusal> {
-    check_taps(order, taps)?;
+/// P, and refusals 1, 2, 3, 4, 9: what a start asks before any memory is looked at.
+pub fn check_start(order: u32, taps: u32, slots: u32) -> Result<usize, Refusal> {
+    let p = check_taps(order, taps)?;
     if !(1..=MOST_SLOTS as u32).contains(&slots) {
-        return Err(SLOT_COUNT);
+        return Err(Refusal::SlotCount);
     }
-    Ok(())
+    Ok(p)
 }
 
-/// Refusals 1, 2, 3, 4, 9, 6.
+/// Refusals 1, 2, 3, 4, 9, 6; the campaign itself tells P.
 pub fn start(
     order: u32,
     taps: u32,
@@ -51,11 +51,10 @@ pub fn start(
     store: &mut [i32],
     sums: &mut [i64],
 ) -> Result<Campaign, Refusal> {
-    check_start(order, taps, slots)?;
-    let p = period(order);
+    let p = check_start(order, taps, slots)?;
     let store_length = slots as usize * p;
     if store.len() < store_length || sums.len() < p {
-        return Err(ROOM_TOO_SHORT);
+        return Err(Refusal::RoomTooShort);
     }
     store[..store_length].fill(0);
     sums[..p].fill(0);
@@ -101,7 +100,7 @@ impl Campaign {
         if holds_together(self, lent) {
             Ok(())
         } else {
-            Err(DOES_NOT_HOLD_TOGETHER)
+            Err(Refusal::DoesNotHoldTogether)
         }
     }
 }
@@ -111,6 +110,6 @@ pub fn check_day(day: u16) -> Result<(), Refusal> {
     if (1..=DAYS).contains(&(day as usize)) {
         Ok(())
     } else {
-        Err(DAY_OUT_OF_RANGE)
+        Err(Refusal::DayOutOfRange)
     }
 }

@@ -12,9 +12,9 @@ const EXPECTED: [(&str, &str); 5] = [
     (
         "start",
         "0 order 2, 0 order 3, 0 order 4, 0 order 5, 0 order 6, 0 order 7, 0 order 8, \
-         0 order 9, 1 below, 1 above, 2, 2 just, 3, 4, 9, 9 at 0 slots, 9 at 65 slots, \
-         17 for the order, 17 at order 10, 17 for the slots, 17 at 9 slots, 17 at 64 slots, \
-         17 for both",
+         0 order 9, 1 below, 1 above, 2, 2 just, 3, 4 after 1, 4 dividing P, 4 not dividing P, \
+         9, 9 at 0 slots, 9 at 65 slots, 17 for the order, 17 at order 10, 17 for the slots, \
+         17 at 9 slots, 17 at 64 slots, 17 for both",
     ),
     (
         "enter",

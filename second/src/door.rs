@@ -4,11 +4,12 @@
 use crate::campaign::{self, Campaign, DayState, Lent, DAYS, FREE, MOST_SLOTS};
 use crate::player::Player;
 use crate::reading::Summary;
-use crate::refusal::{number, Refusal, DOES_NOT_HOLD_TOGETHER, ROOM_TOO_SHORT};
+use crate::refusal::{number, told_period, Refusal};
 use crate::register::{check_taps, default_taps, sequence};
 use crate::response::{one_recording, predict, predict_in_room, HIGHEST, LOWEST};
 use crate::rng::Rng;
 use crate::room::Room;
+use crate::short::short_taps;
 use crate::year_memory::digest_of;
 use std::io::{self, Write};
 
@@ -42,18 +43,18 @@ fn any_order(rng: &mut Rng) -> u32 {
     }
 }
 
-fn any_taps(rng: &mut Rng, order: u32) -> u32 {
+pub fn any_taps(rng: &mut Rng, order: u32) -> u32 {
     if !(2..=16).contains(&order) {
         return rng.below(65536) as u32;
     }
     let all = 1 << order;
-    let taps = match rng.below(12) {
-        0 => all + rng.below(4),
-        1 => 2 * rng.below(all / 2),
-        2 | 3 => rng.below(all),
-        _ => default_taps(order).expect("the order is in range") as usize,
-    };
-    taps as u32
+    match rng.below(16) {
+        0 => (all + rng.below(4)) as u32,
+        1 => 2 * rng.below(all / 2) as u32,
+        2 | 3 => rng.below(all) as u32,
+        4..=6 => short_taps(rng, order),
+        _ => default_taps(order).expect("the order is in range"),
+    }
 }
 
 fn near(rng: &mut Rng, n: usize) -> usize {
@@ -102,12 +103,21 @@ fn filled<T: From<u8>>(length: usize) -> Vec<T> {
 
 // ---- the cases
 
+/// What the caller's variable for a period holds before the call.
+const UNWRITTEN: usize = 99_999;
+
+/// The number of an answer, and what the caller's variable for the period holds after it.
+pub fn with_period(answer: &Result<usize, Refusal>) -> String {
+    let period = told_period(answer).unwrap_or(UNWRITTEN);
+    format!("{} {period}", number(answer))
+}
+
 fn taps_case(rng: &mut Rng) -> Vec<String> {
     let order = any_order(rng);
     let taps = any_taps(rng, order);
     let found = default_taps(order);
     vec![
-        format!("taps {}", number(&check_taps(order, taps))),
+        format!("taps {}", with_period(&check_taps(order, taps))),
         format!("default {} {}", number(&found), found.unwrap_or(7)),
     ]
 }
@@ -116,7 +126,7 @@ fn sequence_case(rng: &mut Rng) -> Vec<String> {
     let order = any_order(rng);
     let taps = any_taps(rng, order);
     let mut out: Vec<u8> = filled(near(rng, period_of(order)));
-    let answer = number(&sequence(order, taps, &mut out));
+    let answer = with_period(&sequence(order, taps, &mut out));
     vec![format!("sequence {answer} {}", digest_of(&out))]
 }
 
@@ -173,7 +183,7 @@ fn recording_case(rng: &mut Rng) -> Vec<String> {
         wide: &mut wide,
         tags: &mut tags,
     };
-    let answer = number(&one_recording(order, taps, &y, &mut out, room));
+    let answer = with_period(&one_recording(order, taps, &y, &mut out, room));
     vec![format!(
         "recording {answer} {} {} {}",
         digest_of(&out),
@@ -189,7 +199,7 @@ fn predict_case(rng: &mut Rng) -> Vec<String> {
     let n = near(rng, p);
     let mut out: Vec<i32> = filled(near(rng, p));
     let h = samples(rng, n);
-    let answer = number(&predict(order, taps, &h, &mut out));
+    let answer = with_period(&predict(order, taps, &h, &mut out));
     vec![format!("predict {answer} {}", digest_of(&out))]
 }
 
@@ -205,7 +215,7 @@ fn predict_in_room_case(rng: &mut Rng) -> Vec<String> {
         wide.fill(0);
     }
     let h = samples(rng, n);
-    let answer = number(&predict_in_room(order, taps, &h, &mut out, &mut wide));
+    let answer = with_period(&predict_in_room(order, taps, &h, &mut out, &mut wide));
     vec![format!(
         "predict in a room {answer} {} {}",
         digest_of(&out),
@@ -238,11 +248,11 @@ impl Held {
     /// The record, or refusal 15 where a table is short or a state is none of the five.
     fn record(&self) -> Result<Campaign, Refusal> {
         if !self.tables_long() {
-            return Err(DOES_NOT_HOLD_TOGETHER);
+            return Err(Refusal::DoesNotHoldTogether);
         }
         let states: Option<Vec<DayState>> =
             self.days[..DAYS].iter().map(|&b| state_of(b)).collect();
-        let days = states.ok_or(DOES_NOT_HOLD_TOGETHER)?;
+        let days = states.ok_or(Refusal::DoesNotHoldTogether)?;
         Ok(Campaign {
             order: self.order,
             taps: self.taps,
@@ -260,27 +270,23 @@ impl Held {
     }
 
     /// A start lends no record yet: a short table is room too short.
-    fn start(&mut self) -> Refusal {
-        if let Err(refusal) = campaign::check_start(self.order, self.taps, self.count) {
-            return refusal;
-        }
+    fn start(&mut self) -> Result<usize, Refusal> {
+        let p = campaign::check_start(self.order, self.taps, self.count)?;
         if !self.tables_long() {
-            return ROOM_TOO_SHORT;
+            return Err(Refusal::RoomTooShort);
         }
         let Lent { store, sums } = &mut self.lent;
-        let started = campaign::start(self.order, self.taps, self.count, store, sums);
-        if let Ok(record) = &started {
-            self.write_back(record);
-        }
-        number(&started)
+        let record = campaign::start(self.order, self.taps, self.count, store, sums)?;
+        self.write_back(&record);
+        Ok(p)
     }
 
     /// The answer, and the state and value that a verdict gives, 9 and 9 where it gives none.
-    fn enter(&mut self, day: u16, y: &[i32]) -> (Refusal, u32, usize) {
+    fn enter(&mut self, day: u16, y: &[i32]) -> (u8, u32, usize) {
         use crate::entering::Verdict;
         let mut record = match self.record() {
             Ok(record) => record,
-            Err(refusal) => return (refusal, 9, 9),
+            Err(refusal) => return (refusal.number(), 9, 9),
         };
         let verdict = record.enter(&mut self.lent, day, y).verdict;
         self.write_back(&record);
@@ -288,16 +294,13 @@ impl Held {
             Verdict::Kept { slot } => (0, 1, slot),
             Verdict::Overloaded { place } => (0, 2, place),
             Verdict::Dead => (0, 3, 0),
-            Verdict::Refused(refusal) => (refusal, 9, 9),
+            Verdict::Refused(refusal) => (refusal.number(), 9, 9),
         }
     }
 
-    fn withdraw(&mut self, day: u16) -> Refusal {
-        let mut record = match self.record() {
-            Ok(record) => record,
-            Err(refusal) => return refusal,
-        };
-        let answer = number(&record.withdraw(&mut self.lent, day));
+    fn withdraw(&mut self, day: u16) -> Result<(), Refusal> {
+        let mut record = self.record()?;
+        let answer = record.withdraw(&mut self.lent, day);
         self.write_back(&record);
         answer
     }
@@ -313,7 +316,7 @@ impl Held {
     }
 }
 
-fn counts_line(held: &Held) -> (Refusal, String) {
+fn counts_line(held: &Held) -> (u8, String) {
     match held.record().and_then(|c| c.counts(&held.lent)) {
         Ok(n) => (
             0,
@@ -322,11 +325,14 @@ fn counts_line(held: &Held) -> (Refusal, String) {
                 n.unseen, n.standing, n.overloaded, n.dead, n.withdrawn
             ),
         ),
-        Err(refusal) => (refusal, format!("counts {refusal} 9 9 9 9 9")),
+        Err(refusal) => {
+            let answer = refusal.number();
+            (answer, format!("counts {answer} 9 9 9 9 9"))
+        }
     }
 }
 
-fn response_line(held: &Held, rng: &mut Rng, summed: bool) -> (Refusal, String) {
+fn response_line(held: &Held, rng: &mut Rng, summed: bool) -> (u8, String) {
     let p = period_of(held.order);
     let mut r: Vec<i64> = filled(near(rng, p));
     let mut means: Vec<i32> = filled(near(rng, p));
@@ -357,7 +363,7 @@ fn response_line(held: &Held, rng: &mut Rng, summed: bool) -> (Refusal, String) 
     let (answer, stands, levels) = match found {
         Summary::NothingStands => (0, 0, [9.0; 3]),
         Summary::Levels(l) => (0, 1, [l.highest, l.lowest, l.at_peak]),
-        Summary::Refused(refusal) => (refusal, 9, [9.0; 3]),
+        Summary::Refused(refusal) => (refusal.number(), 9, [9.0; 3]),
     };
     let [high, low, peak] = levels.map(f64::to_bits);
     let line = format!(
@@ -438,7 +444,7 @@ impl Held {
     }
 }
 
-fn enter_line(held: &mut Held, rng: &mut Rng) -> (Refusal, String) {
+fn enter_line(held: &mut Held, rng: &mut Rng) -> (u8, String) {
     let day = any_day(rng);
     let p = period_of(held.order);
     let n = if rng.once_in(15) {
@@ -452,15 +458,15 @@ fn enter_line(held: &mut Held, rng: &mut Rng) -> (Refusal, String) {
     (answer, line)
 }
 
-fn withdraw_line(held: &mut Held, rng: &mut Rng) -> (Refusal, String) {
-    let answer = held.withdraw(any_day(rng));
+fn withdraw_line(held: &mut Held, rng: &mut Rng) -> (u8, String) {
+    let answer = number(&held.withdraw(any_day(rng)));
     (answer, format!("withdraw {answer} {}", held.memory()))
 }
 
 /// A campaign: its start, and a run of calls on what that left, some on a damaged record.
 fn campaign_case(rng: &mut Rng) -> Vec<String> {
     let mut held = any_campaign(rng);
-    let answer = held.start();
+    let answer = with_period(&held.start());
     let mut lines = vec![format!("start {answer} {}", held.memory())];
     let steps = if held.order >= 12 {
         2 + rng.below(3)
@@ -477,7 +483,7 @@ fn campaign_case(rng: &mut Rng) -> Vec<String> {
             _ => response_line(&held, rng, what == 9),
         };
         lines.push(line);
-        if answer == DOES_NOT_HOLD_TOGETHER {
+        if answer == Refusal::DoesNotHoldTogether.number() {
             held.mend(&damage);
         }
     }

@@ -1,7 +1,7 @@
 //! Entering a day's recording and withdrawing a standing day.
 
 use crate::campaign::{check_day, Campaign, DayState, Lent, FREE};
-use crate::refusal::*;
+use crate::refusal::Refusal;
 use crate::response::{in_sample_range, HIGHEST, LOWEST};
 
 #[derive(Clone, Copy, Debug, PartialEq, Eq)]
@@ -14,9 +14,9 @@ pub enum Verdict {
 
 impl Verdict {
     /// The number printed for it: 0 means accepted.
-    pub fn number(&self) -> Refusal {
+    pub fn number(&self) -> u8 {
         match *self {
-            Verdict::Refused(refusal) => refusal,
+            Verdict::Refused(refusal) => refusal.number(),
             _ => 0,
         }
     }
@@ -80,18 +80,18 @@ impl Campaign {
         self.check_holding(lent)?;
         check_day(day)?;
         if recording.len() != self.p() {
-            return Err(NOT_P_LONG);
+            return Err(Refusal::NotPLong);
         }
         if !recording.iter().all(|&v| in_sample_range(i64::from(v))) {
-            return Err(VALUE_OUTSIDE_RANGE);
+            return Err(Refusal::ValueOutsideRange);
         }
         if self.state(day) == DayState::Standing {
-            return Err(ALREADY_STANDING);
+            return Err(Refusal::AlreadyStanding);
         }
         if let Some(verdict) = fault(recording) {
             return Ok(verdict);
         }
-        let slot = self.slot_holding(FREE).ok_or(ALL_SLOTS_USED)?;
+        let slot = self.slot_holding(FREE).ok_or(Refusal::AllSlotsUsed)?;
         Ok(Verdict::Kept { slot })
     }
 
@@ -109,7 +109,7 @@ impl Campaign {
     pub fn withdraw(&mut self, lent: &mut Lent, day: u16) -> Result<(), Refusal> {
         self.check_holding(lent)?;
         check_day(day)?;
-        let slot = self.slot_holding(day).ok_or(NOT_STANDING)?;
+        let slot = self.slot_holding(day).ok_or(Refusal::NotStanding)?;
         let p = self.p();
         let samples = &mut lent.store[slot * p..(slot + 1) * p];
         for (sum, sample) in lent.sums.iter_mut().zip(samples) {

@@ -1,4 +1,5 @@
-//! A second program for the response meter, written from document 01 alone.
+//! A second program for the response meter, written from document 01 and the requests of document 02 that have landed, not from the
+//! proved code.
 
 pub mod campaign;
 pub mod compare;
@@ -23,6 +24,7 @@ pub mod response;
 pub mod rng;
 pub mod room;
 pub mod run;
+pub mod short;
 pub mod signs;
 pub mod text;
 pub mod year;

@@ -4,8 +4,9 @@ use crate::campaign::DAYS;
 use crate::damage::damaged;
 use crate::record::{encode, Record};
 use crate::recordings::{kept, recording};
-use crate::register::{check_form, check_taps, default_taps};
+use crate::register::{check_taps, default_taps};
 use crate::rng::Rng;
+use crate::short::short_taps;
 
 /// A log as its encoded records, so that damage can be done between them.
 pub type Pieces = Vec<Vec<u8>>;
@@ -44,29 +45,22 @@ fn start(order: u8, taps: u16, slots: u8) -> Vec<u8> {
     encode(Record::Start { order, taps, slots })
 }
 
-/// Random taps that are accepted for the order or, asked otherwise, refused with 4.
-fn random_taps(rng: &mut Rng, order: u32, maximal: bool) -> u32 {
-    loop {
-        let taps = rng.below(1 << order) as u32;
-        let formed = check_form(order, taps).is_ok();
-        if formed && check_taps(order, taps).is_ok() == maximal {
-            return taps;
-        }
-    }
-}
-
 fn accepted_taps(rng: &mut Rng, order: u32) -> u32 {
     if rng.once_in(2) {
-        default_taps(order).expect("the order is from 2 to 16")
-    } else {
-        random_taps(rng, order, true)
+        return default_taps(order).expect("the order is from 2 to 16");
+    }
+    loop {
+        let taps = rng.below(1 << order) as u32;
+        if check_taps(order, taps).is_ok() {
+            return taps;
+        }
     }
 }
 
 /// A start that is refused for one reason or several, sometimes with more behind it;
 /// a few with everything random. The edge of each rule comes often.
 fn refused_start(rng: &mut Rng) -> Pieces {
-    let sort = rng.below(8);
+    let sort = rng.below(9);
     let any_order = rng.between(2, 16) as u32;
     let order = match sort {
         0 => rng.pick(&[0, 1, 17, 18, 255]),
@@ -82,7 +76,7 @@ fn refused_start(rng: &mut Rng) -> Pieces {
         1 if rng.once_in(3) => 1 << order,
         1 => (1 << order) + rng.below(65536 - (1 << order)) as u32,
         2 => 2 * rng.below(1 << (order - 1)) as u32,
-        3 => random_taps(rng, order, false),
+        3 | 8 => short_taps(rng, order),
         7 => rng.below(65536) as u32,
         _ => accepted_taps(rng, order),
     };

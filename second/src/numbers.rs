@@ -1,6 +1,6 @@
 //! The numbers two programs can be held to, by direct formulas.
 
-use crate::refusal::{number, Refusal};
+use crate::refusal::{number, told_period, Refusal};
 use crate::register::{check_taps, default_taps, period};
 use crate::response::{mean, one_recording, predict, HIGHEST, LOWEST};
 use crate::room::Room;
@@ -35,7 +35,11 @@ pub fn pattern(order: u32) -> Vec<i32> {
 }
 
 pub fn print(out: &mut impl Write) -> io::Result<()> {
-    taps_and_defaults(out)?;
+    taps(out)?;
+    for order in 2..=12 {
+        all_taps(out, order)?;
+    }
+    defaults(out)?;
     recordings_and_samples(out)?;
     for (r, d) in [
         (4, 8),
@@ -63,7 +67,13 @@ pub fn print(out: &mut impl Write) -> io::Result<()> {
     loud(out, "rails", rails.collect())
 }
 
-fn taps_and_defaults(out: &mut impl Write) -> io::Result<()> {
+/// The number of the taps check, and the period told with it, 0 where there is none.
+fn checked(order: u32, taps: u32) -> (u8, usize) {
+    let answer = check_taps(order, taps);
+    (number(&answer), told_period(&answer).unwrap_or(0))
+}
+
+fn taps(out: &mut impl Write) -> io::Result<()> {
     let pairs = [
         (1, 3),
         (17, 3),
@@ -76,14 +86,30 @@ fn taps_and_defaults(out: &mut impl Write) -> io::Result<()> {
         (3, 3),
         (3, 5),
         (4, 3),
+        (3, 7),
+        (5, 3),
+        (6, 21),
+        (16, 1),
+        (16, 65535),
     ];
     for (order, taps) in pairs {
-        writeln!(
-            out,
-            "taps {order} {taps} {}",
-            number(&check_taps(order, taps))
-        )?;
+        let (answer, period) = checked(order, taps);
+        writeln!(out, "taps {order} {taps} {answer} {period}")?;
     }
+    Ok(())
+}
+
+/// How many of the taps 0 to 2^N are accepted, and all their answers as one number.
+fn all_taps(out: &mut impl Write, order: u32) -> io::Result<()> {
+    let answers: Vec<_> = (0..=1 << order).map(|taps| checked(order, taps)).collect();
+    let accepted = answers.iter().filter(|(answer, _)| *answer == 0).count();
+    let values = answers
+        .iter()
+        .flat_map(|&(answer, period)| [i64::from(answer), period as i64]);
+    writeln!(out, "all-taps {order} {accepted} {}", digest(values))
+}
+
+fn defaults(out: &mut impl Write) -> io::Result<()> {
     for order in 0..=18 {
         let taps = default_taps(order);
         writeln!(

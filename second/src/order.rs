@@ -2,6 +2,7 @@
 //! so that the answer tells which comes first. `door/order.c` makes the same calls through the C door.
 
 use crate::campaign::{start, Campaign, Lent};
+use crate::door::with_period;
 use crate::entering::Verdict;
 use crate::player::Player;
 use crate::reading::Summary;
@@ -30,48 +31,49 @@ pub fn print(out: &mut impl Write) -> io::Result<()> {
     Ok(())
 }
 
-fn line(call: &str, checks: &str, answer: Refusal) -> String {
+fn line(call: &str, checks: &str, answer: u8) -> String {
     format!("{call}: {checks}: {answer}")
+}
+
+/// The answer of a call that has a period, which is P where it is accepted.
+type Told = Result<usize, Refusal>;
+
+fn told_line(call: &str, checks: &str, answer: Told) -> String {
+    format!("{call}: {checks}: {}", with_period(&answer))
 }
 
 // ---- the calls that take order and taps
 
-fn told(order: u32, taps: u32, n: usize) -> Refusal {
-    number(&sequence(order, taps, &mut vec![0; n]))
+fn written(order: u32, taps: u32, n: usize) -> Told {
+    sequence(order, taps, &mut vec![0; n])
 }
 
 /// One recording of `n` samples, with an output, wide numbers and tags of these lengths.
-fn heard(order: u32, taps: u32, first: i32, n: usize, lengths: [usize; 3]) -> Refusal {
+fn heard(order: u32, taps: u32, first: i32, n: usize, lengths: [usize; 3]) -> Told {
     let y = &[first, 0, 0][..n];
     let [out, wide, tags] = lengths;
     let room = &mut Room {
         wide: &mut vec![0; wide],
         tags: &mut vec![0; tags],
     };
-    number(&one_recording(order, taps, y, &mut vec![0; out], room))
+    one_recording(order, taps, y, &mut vec![0; out], room)
 }
 
-fn predicted(order: u32, taps: u32, first: i32, n: usize, out: usize) -> Refusal {
+fn predicted(order: u32, taps: u32, first: i32, n: usize, out: usize) -> Told {
     let h = &[first, 0, 0][..n];
-    number(&predict(order, taps, h, &mut vec![0; out]))
+    predict(order, taps, h, &mut vec![0; out])
 }
 
 /// With an output and a room of these lengths.
-fn predicted_in_room(order: u32, taps: u32, first: i32, n: usize, lengths: [usize; 2]) -> Refusal {
+fn predicted_in_room(order: u32, taps: u32, first: i32, n: usize, lengths: [usize; 2]) -> Told {
     let h = &[first, 0, 0][..n];
     let [out, wide] = lengths;
-    number(&predict_in_room(
-        order,
-        taps,
-        h,
-        &mut vec![0; out],
-        &mut vec![1; wide],
-    ))
+    predict_in_room(order, taps, h, &mut vec![0; out], &mut vec![1; wide])
 }
 
-fn started(order: u32, taps: u32, count: u32, store: usize, sums: usize) -> Refusal {
+fn started(order: u32, taps: u32, count: u32, store: usize, sums: usize) -> Told {
     let (store, sums) = (&mut vec![0; store], &mut vec![0; sums]);
-    number(&start(order, taps, count, store, sums))
+    start(order, taps, count, store, sums).map(|campaign| campaign.p())
 }
 
 /// A block is refused for the same causes as a step.
@@ -96,9 +98,9 @@ fn registers() -> Vec<String> {
     ];
     let mut lines = vec![];
     for (order, taps, checks) in shapes {
-        let mut add = |call, answer| lines.push(line(call, checks, answer));
-        add("taps", number(&check_taps(order, taps)));
-        add("sequence", told(order, taps, P));
+        let mut add = |call, answer| lines.push(told_line(call, checks, answer));
+        add("taps", check_taps(order, taps));
+        add("sequence", written(order, taps, P));
         add("recording", heard(order, taps, 1, P, [P, ROOM, TAGS]));
         add("predict", predicted(order, taps, 1, P, P));
         add(
@@ -107,13 +109,14 @@ fn registers() -> Vec<String> {
         );
         add("start", started(order, taps, 1, P, P));
         if checks != "3 before 4" {
-            add("new player", number(&Player::new(order, taps)));
+            let made = number(&Player::new(order, taps));
+            lines.push(line("new player", checks, made));
             lines.extend(players(order, taps, 1, checks));
         }
     }
     lines.extend(players(2, 2, 0, "3 before 16"));
     lines.extend(players(2, 2, 4, "3 before 16"));
-    lines.push(line("sequence", "4 before 6", told(2, 1, P - 1)));
+    lines.push(told_line("sequence", "4 before 6", written(2, 1, P - 1)));
     lines
 }
 
@@ -125,7 +128,7 @@ fn recordings() -> Vec<String> {
         [P, ROOM, TAGS - 1],
     ];
     let mut lines = vec![];
-    let mut add = |call, checks, answer| lines.push(line(call, checks, answer));
+    let mut add = |call, checks, answer| lines.push(told_line(call, checks, answer));
     add(
         "recording",
         "4 before 5",
@@ -203,7 +206,7 @@ fn enter(checks: &str, standing: bool, damaged: bool, day: u16, y: &[i32]) -> St
         Verdict::Kept { slot } => (0, 1, slot),
         Verdict::Overloaded { place } => (0, 2, place),
         Verdict::Dead => (0, 3, 0),
-        Verdict::Refused(refusal) => (refusal, 9, 9),
+        Verdict::Refused(refusal) => (refusal.number(), 9, 9),
     };
     format!("enter: {checks}: {answer} {state} {value}")
 }
@@ -253,7 +256,7 @@ fn asks(damaged: bool, response_checks: &str, summary_checks: &str) -> Vec<Strin
             tags: &mut vec![0; tags],
         };
         match campaign.summary(&lent, room) {
-            Summary::Refused(refusal) => refusal,
+            Summary::Refused(refusal) => refusal.number(),
             _ => 0,
         }
     };

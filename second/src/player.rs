@@ -1,6 +1,6 @@
 //! The player: the next sign at each sample clock.
 
-use crate::refusal::*;
+use crate::refusal::Refusal;
 use crate::register::{all_ones, check_form, next_window};
 
 #[derive(Clone, Debug, PartialEq, Eq)]
@@ -27,7 +27,7 @@ impl Player {
     pub fn step(&mut self) -> Result<i32, Refusal> {
         check_form(self.order, self.taps)?;
         if self.window == 0 || self.window > all_ones(self.order) {
-            return Err(WINDOW);
+            return Err(Refusal::Window);
         }
         let sign = if self.window & 1 == 0 { 1 } else { -1 };
         self.window = next_window(self.order, self.taps, self.window);

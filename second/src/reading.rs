@@ -1,7 +1,7 @@
 //! What a campaign tells: its counts, its response, its summary.
 
 use crate::campaign::{Campaign, DayState, Lent};
-use crate::refusal::*;
+use crate::refusal::Refusal;
 use crate::response::{direct_response, mean};
 use crate::room::Room;
 
@@ -57,11 +57,11 @@ impl Campaign {
         self.check_holding(lent)?;
         let p = self.p();
         if r.len() < p || means.len() < p {
-            return Err(ROOM_TOO_SHORT);
+            return Err(Refusal::RoomTooShort);
         }
         room.check(p)?;
         if self.days_in(DayState::Standing) == 0 {
-            return Err(NOTHING_STANDING);
+            return Err(Refusal::NothingStanding);
         }
         r[..p].copy_from_slice(&direct_response(self.order, self.taps, &lent.sums[..p]));
         for (place, &r) in means.iter_mut().zip(&r[..p]) {

@@ -1,29 +1,67 @@
-//! The paper's refusal numbers.
+//! The paper's refusals, each with its number.
 
-pub type Refusal = u8;
+#[derive(Clone, Copy, Debug, PartialEq, Eq)]
+pub enum Refusal {
+    OrderOutOfRange,
+    TapsNotBelow,
+    Tap0Clear,
+    /// With the steps after which the register first returns to all ones.
+    NotMaximal {
+        first_return: usize,
+    },
+    NotPLong,
+    RoomTooShort,
+    ValueOutsideRange,
+    PredictedOutsideRange,
+    SlotCount,
+    DayOutOfRange,
+    AlreadyStanding,
+    AllSlotsUsed,
+    NotStanding,
+    NothingStanding,
+    DoesNotHoldTogether,
+    Window,
+    ProgramLimit,
+}
 
-pub const ORDER_OUT_OF_RANGE: Refusal = 1;
-pub const TAPS_NOT_BELOW: Refusal = 2;
-pub const TAP_0_CLEAR: Refusal = 3;
-pub const NOT_MAXIMAL: Refusal = 4;
-pub const NOT_P_LONG: Refusal = 5;
-pub const ROOM_TOO_SHORT: Refusal = 6;
-pub const VALUE_OUTSIDE_RANGE: Refusal = 7;
-pub const PREDICTED_OUTSIDE_RANGE: Refusal = 8;
-pub const SLOT_COUNT: Refusal = 9;
-pub const DAY_OUT_OF_RANGE: Refusal = 10;
-pub const ALREADY_STANDING: Refusal = 11;
-pub const ALL_SLOTS_USED: Refusal = 12;
-pub const NOT_STANDING: Refusal = 13;
-pub const NOTHING_STANDING: Refusal = 14;
-pub const DOES_NOT_HOLD_TOGETHER: Refusal = 15;
-pub const WINDOW: Refusal = 16;
-pub const PROGRAM_LIMIT: Refusal = 17;
+impl Refusal {
+    pub fn number(self) -> u8 {
+        match self {
+            Refusal::OrderOutOfRange => 1,
+            Refusal::TapsNotBelow => 2,
+            Refusal::Tap0Clear => 3,
+            Refusal::NotMaximal { .. } => 4,
+            Refusal::NotPLong => 5,
+            Refusal::RoomTooShort => 6,
+            Refusal::ValueOutsideRange => 7,
+            Refusal::PredictedOutsideRange => 8,
+            Refusal::SlotCount => 9,
+            Refusal::DayOutOfRange => 10,
+            Refusal::AlreadyStanding => 11,
+            Refusal::AllSlotsUsed => 12,
+            Refusal::NotStanding => 13,
+            Refusal::NothingStanding => 14,
+            Refusal::DoesNotHoldTogether => 15,
+            Refusal::Window => 16,
+            Refusal::ProgramLimit => 17,
+        }
+    }
+}
 
 /// The number printed for an answer: 0 means accepted.
-pub fn number<T>(answer: &Result<T, Refusal>) -> Refusal {
+pub fn number<T>(answer: &Result<T, Refusal>) -> u8 {
     match answer {
         Ok(_) => 0,
-        Err(refusal) => *refusal,
+        Err(refusal) => refusal.number(),
+    }
+}
+
+/// The period told with an answer that is P where it is accepted: P itself, the first return of a register that is not maximal, and
+/// nothing at any other refusal.
+pub fn told_period(answer: &Result<usize, Refusal>) -> Option<usize> {
+    match *answer {
+        Ok(p) => Some(p),
+        Err(Refusal::NotMaximal { first_return }) => Some(first_return),
+        Err(_) => None,
     }
 }

@@ -1,6 +1,6 @@
 //! The register: its taps, its period and its sequence.
 
-use crate::refusal::*;
+use crate::refusal::Refusal;
 
 /// P = 2^N - 1.
 pub fn period(order: u32) -> usize {
@@ -21,13 +21,13 @@ pub fn next_window(order: u32, taps: u32, window: u32) -> u32 {
 /// Refusals 1, 2, 3.
 pub fn check_form(order: u32, taps: u32) -> Result<(), Refusal> {
     if !(2..=16).contains(&order) {
-        return Err(ORDER_OUT_OF_RANGE);
+        return Err(Refusal::OrderOutOfRange);
     }
     if taps >= 1 << order {
-        return Err(TAPS_NOT_BELOW);
+        return Err(Refusal::TapsNotBelow);
     }
     if taps & 1 == 0 {
-        return Err(TAP_0_CLEAR);
+        return Err(Refusal::Tap0Clear);
     }
     Ok(())
 }
@@ -43,13 +43,14 @@ pub fn first_return(order: u32, taps: u32) -> usize {
     steps
 }
 
-/// Refusals 1, 2, 3, 4.
-pub fn check_taps(order: u32, taps: u32) -> Result<(), Refusal> {
+/// P, where the register first returns to all ones after P steps. Refusals 1, 2, 3, 4.
+pub fn check_taps(order: u32, taps: u32) -> Result<usize, Refusal> {
     check_form(order, taps)?;
-    if first_return(order, taps) != period(order) {
-        return Err(NOT_MAXIMAL);
+    let first_return = first_return(order, taps);
+    if first_return != period(order) {
+        return Err(Refusal::NotMaximal { first_return });
     }
-    Ok(())
+    Ok(first_return)
 }
 
 /// s(0) to s(P-1) by the recurrence itself, for accepted taps.
@@ -66,14 +67,14 @@ fn recurrence_bits(order: u32, taps: u32) -> Vec<u8> {
     s
 }
 
-/// Writes s(0) to s(P-1). Refusals 1, 2, 3, 4, 6.
-pub fn sequence(order: u32, taps: u32, bits: &mut [u8]) -> Result<(), Refusal> {
-    check_taps(order, taps)?;
-    if bits.len() < period(order) {
-        return Err(ROOM_TOO_SHORT);
+/// Writes s(0) to s(P-1), and gives P. Refusals 1, 2, 3, 4, 6.
+pub fn sequence(order: u32, taps: u32, bits: &mut [u8]) -> Result<usize, Refusal> {
+    let p = check_taps(order, taps)?;
+    if bits.len() < p {
+        return Err(Refusal::RoomTooShort);
     }
-    bits[..period(order)].copy_from_slice(&recurrence_bits(order, taps));
-    Ok(())
+    bits[..p].copy_from_slice(&recurrence_bits(order, taps));
+    Ok(p)
 }
 
 /// x(0) to x(P-1), x(k) = 1 - 2·s(k), for accepted taps.
@@ -94,6 +95,6 @@ pub fn default_taps(order: u32) -> Result<u32, Refusal> {
         13 => Ok(27),
         14 => Ok(43),
         16 => Ok(45),
-        _ => Err(ORDER_OUT_OF_RANGE),
+        _ => Err(Refusal::OrderOutOfRange),
     }
 }

@@ -1,7 +1,7 @@
 //! One recording turned into a response, a predicted recording, the mean.
 
-use crate::refusal::*;
-use crate::register::{check_taps, period, signal};
+use crate::refusal::Refusal;
+use crate::register::{check_taps, signal};
 use crate::room::Room;
 
 pub const LOWEST: i32 = -8_388_608;
@@ -30,30 +30,29 @@ pub fn direct_response(order: u32, taps: u32, y: &[i64]) -> Vec<i64> {
     c.iter().map(|c| c - total).collect()
 }
 
-/// Writes r(0) to r(P-1). Refusals 1 to 7.
+/// Writes r(0) to r(P-1), and gives P. Refusals 1 to 7.
 pub fn one_recording(
     order: u32,
     taps: u32,
     recording: &[i32],
     r: &mut [i64],
     room: &mut Room,
-) -> Result<(), Refusal> {
-    check_taps(order, taps)?;
-    let p = period(order);
+) -> Result<usize, Refusal> {
+    let p = check_taps(order, taps)?;
     if recording.len() != p {
-        return Err(NOT_P_LONG);
+        return Err(Refusal::NotPLong);
     }
     if r.len() < p {
-        return Err(ROOM_TOO_SHORT);
+        return Err(Refusal::RoomTooShort);
     }
     room.check(p)?;
     let y: Vec<i64> = recording.iter().map(|&v| i64::from(v)).collect();
     if !y.iter().all(|&v| in_sample_range(v)) {
-        return Err(VALUE_OUTSIDE_RANGE);
+        return Err(Refusal::ValueOutsideRange);
     }
     r[..p].copy_from_slice(&direct_response(order, taps, &y));
     room.clear(p);
-    Ok(())
+    Ok(p)
 }
 
 /// y(j), the sum over i of h(i)·x(j-i), where nothing is refused. Refusals 1 to 8; `short` says of P whether what is lent is too short.
@@ -63,33 +62,32 @@ fn predicted(
     h: &[i32],
     short: impl Fn(usize) -> bool,
 ) -> Result<Vec<i32>, Refusal> {
-    check_taps(order, taps)?;
-    let p = period(order);
+    let p = check_taps(order, taps)?;
     if h.len() != p {
-        return Err(NOT_P_LONG);
+        return Err(Refusal::NotPLong);
     }
     if short(p) {
-        return Err(ROOM_TOO_SHORT);
+        return Err(Refusal::RoomTooShort);
     }
     let h: Vec<i64> = h.iter().map(|&v| i64::from(v)).collect();
     if !h.iter().all(|&v| in_sample_range(v)) {
-        return Err(VALUE_OUTSIDE_RANGE);
+        return Err(Refusal::ValueOutsideRange);
     }
     // x(j-i) is place i-j of the signal read backwards in time.
     let mut backwards = signal(order, taps);
     backwards[1..].reverse();
     let predicted = sums_at_all_shifts(&h, &backwards);
     if !predicted.iter().all(|&v| in_sample_range(v)) {
-        return Err(PREDICTED_OUTSIDE_RANGE);
+        return Err(Refusal::PredictedOutsideRange);
     }
     Ok(predicted.iter().map(|&v| v as i32).collect())
 }
 
-/// Writes the predicted recording.
-pub fn predict(order: u32, taps: u32, h: &[i32], y: &mut [i32]) -> Result<(), Refusal> {
+/// Writes the predicted recording, and gives P.
+pub fn predict(order: u32, taps: u32, h: &[i32], y: &mut [i32]) -> Result<usize, Refusal> {
     let samples = predicted(order, taps, h, |p| y.len() < p)?;
     y[..samples.len()].copy_from_slice(&samples);
-    Ok(())
+    Ok(samples.len())
 }
 
 /// The same with a lent room of P+1 wide numbers: 6 also where that is too short. On success the room holds zeros, and a longer one
@@ -100,11 +98,11 @@ pub fn predict_in_room(
     h: &[i32],
     y: &mut [i32],
     wide: &mut [i64],
-) -> Result<(), Refusal> {
+) -> Result<usize, Refusal> {
     let samples = predicted(order, taps, h, |p| y.len() < p || wide.len() < p + 1)?;
     y[..samples.len()].copy_from_slice(&samples);
     wide[..samples.len() + 1].fill(0);
-    Ok(())
+    Ok(samples.len())
 }
 
 /// r divided by a positive divisor, to nearest, halves away from zero.

@@ -1,7 +1,7 @@
 //! The working room that 01 asks of a caller. Direct sums use none of it,
 //! but a caller who lends too little is refused 6 all the same.
 
-use crate::refusal::*;
+use crate::refusal::Refusal;
 
 pub struct Room<'a> {
     pub wide: &'a mut [i64],
@@ -12,7 +12,7 @@ impl Room<'_> {
     /// P+1 wide numbers and 2P tags.
     pub fn check(&self, p: usize) -> Result<(), Refusal> {
         if self.wide.len() < p + 1 || self.tags.len() < 2 * p {
-            return Err(ROOM_TOO_SHORT);
+            return Err(Refusal::RoomTooShort);
         }
         Ok(())
     }

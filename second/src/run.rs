@@ -4,8 +4,7 @@ use crate::campaign::{check_start, start, Campaign, Lent};
 use crate::met;
 use crate::reading::Counts;
 use crate::record::{Record, ASK, ENTER, OPEN, SAMPLE, START, WITHDRAW};
-use crate::refusal::*;
-use crate::register::period;
+use crate::refusal::{number, Refusal};
 use crate::room::Room;
 use std::fmt::Write;
 
@@ -44,17 +43,24 @@ pub enum After {
 
 /// Accepts a start within the program's limits: 17 stands in the place of 6.
 fn start_in_program(order: u32, taps: u32, slots: u32) -> Result<(Campaign, Lent), Refusal> {
-    check_start(order, taps, slots)?;
+    let p = check_start(order, taps, slots)?;
     if order > 9 || slots > 8 {
-        return Err(PROGRAM_LIMIT);
+        return Err(Refusal::ProgramLimit);
     }
-    let p = period(order);
     let mut lent = Lent {
         store: vec![0; slots as usize * p],
         sums: vec![0; p],
     };
     let campaign = start(order, taps, slots, &mut lent.store, &mut lent.sums)?;
     Ok((campaign, lent))
+}
+
+/// A start's answer as its line has it: after 4 stands how soon the register returns.
+fn start_words<T>(started: &Result<T, Refusal>) -> String {
+    match started {
+        Err(Refusal::NotMaximal { first_return }) => format!("{} {first_return}", number(started)),
+        _ => number(started).to_string(),
+    }
 }
 
 impl Run {
@@ -109,9 +115,11 @@ impl Run {
 
     fn start(&mut self, order: u32, taps: u32, slots: u32) -> After {
         let started = start_in_program(order, taps, slots);
-        let answer = number(&started);
-        self.answer.line(format_args!("start {answer}"));
-        self.answer.met.push(met::start(order, taps, slots, answer));
+        self.answer
+            .line(format_args!("start {}", start_words(&started)));
+        self.answer
+            .met
+            .push(met::start(order, taps, slots, &started));
         match started {
             Ok(campaign) => {
                 self.campaign = Some(campaign);
@@ -141,20 +149,24 @@ impl Run {
         let (campaign, lent) = self.campaign();
         let before = campaign.clone();
         let entry = campaign.enter(lent, day, &samples);
-        let (answer, word) = (entry.verdict.number(), entry.verdict.word());
+        let verdict = entry.verdict;
+        let (answer, word) = (verdict.number(), verdict.word());
         self.answer
             .line(format_args!("enter {} {answer} {word}", entry.day));
         self.answer
             .met
-            .extend(met::enter(&before, &samples, day, answer, word));
+            .extend(met::enter(&before, &samples, day, verdict));
     }
 
     fn withdraw(&mut self, day: u16) {
         let (campaign, lent) = self.campaign();
         let before = campaign.clone();
-        let answer = number(&campaign.withdraw(lent, day));
+        let withdrawn = campaign.withdraw(lent, day);
+        let answer = number(&withdrawn);
         self.answer.line(format_args!("withdraw {day} {answer}"));
-        self.answer.met.push(met::withdraw(&before, day, answer));
+        self.answer
+            .met
+            .push(met::withdraw(&before, day, &withdrawn));
     }
 
     fn ask(&mut self) {

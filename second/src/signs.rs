@@ -1,6 +1,6 @@
 //! The samples of a few runs of a player, read off the sequence: no window is stepped.
 
-use crate::refusal::{Refusal, WINDOW};
+use crate::refusal::Refusal;
 use crate::register::{all_ones, check_form, default_taps, period, signal};
 use std::io::{self, Write};
 
@@ -89,13 +89,14 @@ fn counted(samples: u64) -> u64 {
 fn cause(order: u32, taps: u32, window: u32) -> Result<(), Refusal> {
     check_form(order, taps)?;
     if window == 0 || window > all_ones(order) {
-        return Err(WINDOW);
+        return Err(Refusal::Window);
     }
     Ok(())
 }
 
 fn refused(out: &mut impl Write, order: u32, taps: u32, window: u32) -> io::Result<()> {
-    let number = cause(order, taps, window).expect_err("a player that is refused");
+    let refusal = cause(order, taps, window).expect_err("a player that is refused");
+    let number = refusal.number();
     for name in ["blocks", "clocks"] {
         writeln!(out, "{name} {order} {taps} {window} 5")?;
         writeln!(out, "refused {number}")?;

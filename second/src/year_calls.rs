@@ -92,7 +92,7 @@ impl Calls {
                 "counts 0 {} {} {} {} {}",
                 c.unseen, c.standing, c.overloaded, c.dead, c.withdrawn
             ),
-            Err(refusal) => format!("counts {refusal} 0 0 0 0 0"),
+            Err(refusal) => format!("counts {} 0 0 0 0 0", refusal.number()),
         };
         self.lines.push(line);
     }
@@ -126,7 +126,7 @@ impl Calls {
                     [levels.highest, levels.lowest, levels.at_peak].map(f64::to_bits);
                 format!("0 {highest} {lowest} {at_peak}")
             }
-            Summary::Refused(refusal) => format!("{refusal} 0 0 0"),
+            Summary::Refused(refusal) => format!("{} 0 0 0", refusal.number()),
         };
         let line = format!("summary {told} {}", self.room_digests());
         self.lines.push(line);

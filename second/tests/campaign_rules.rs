@@ -3,6 +3,7 @@
 use second::campaign::{start, Campaign, DayState, Lent};
 use second::entering::Verdict::{self, *};
 use second::reading::{Levels, Summary};
+use second::refusal::{number, Refusal};
 use second::room::Room;
 
 const KEPT: [i32; 7] = [-1, -3, -1, 3, 3, -3, 1];
@@ -29,6 +30,18 @@ fn enter(at: &mut (Campaign, Lent), day: u16, recording: &[i32]) -> Verdict {
     entry.verdict
 }
 
+/// The number of an entry that is refused.
+fn refused(at: &mut (Campaign, Lent), day: u16, recording: &[i32]) -> u8 {
+    match enter(at, day, recording) {
+        Refused(refusal) => refusal.number(),
+        verdict => panic!("{verdict:?}"),
+    }
+}
+
+fn withdraw(at: &mut (Campaign, Lent), day: u16) -> u8 {
+    number(&at.0.withdraw(&mut at.1, day))
+}
+
 fn counts(at: &(Campaign, Lent)) -> [usize; 5] {
     let c = at.0.counts(&at.1).unwrap();
     [c.unseen, c.standing, c.overloaded, c.dead, c.withdrawn]
@@ -44,17 +57,20 @@ fn summary(at: &(Campaign, Lent), wide: usize, tags: usize) -> Summary {
     )
 }
 
-fn response(at: &(Campaign, Lent), r: usize, means: usize, wide: usize) -> Result<(), u8> {
+fn response(at: &(Campaign, Lent), r: usize, means: usize, wide: usize) -> u8 {
     let mut room = Room {
         wide: &mut vec![0; wide],
         tags: &mut [0; 14],
     };
-    at.0.response(&at.1, &mut vec![0; r], &mut vec![0; means], &mut room)
+    number(
+        &at.0
+            .response(&at.1, &mut vec![0; r], &mut vec![0; means], &mut room),
+    )
 }
 
 #[test]
 fn a_start_refuses_in_order() {
-    let refused = |order, taps, slots| start(order, taps, slots, &mut [], &mut []).unwrap_err();
+    let refused = |order, taps, slots| number(&start(order, taps, slots, &mut [], &mut []));
     assert_eq!(refused(17, 0, 0), 1);
     assert_eq!(refused(3, 8, 0), 2);
     assert_eq!(refused(3, 2, 0), 3);
@@ -66,7 +82,7 @@ fn a_start_refuses_in_order() {
         sums: vec![9; 6],
     };
     let refused = start(3, 3, 1, &mut no_sums.store, &mut no_sums.sums);
-    assert_eq!(refused, Err(6));
+    assert_eq!(refused, Err(Refusal::RoomTooShort));
     assert_eq!(
         no_sums,
         Lent {
@@ -90,17 +106,14 @@ fn a_start_clears_only_its_own_part() {
 #[test]
 fn an_entry_refuses_in_order() {
     let at = &mut campaign(1);
-    assert_eq!(
-        [0, 367].map(|day| enter(at, day, &[])),
-        [Refused(10), Refused(10)]
-    );
+    assert_eq!([0, 367].map(|day| refused(at, day, &[])), [10, 10]);
     assert_eq!(enter(at, 366, &KEPT), Kept { slot: 0 });
-    assert_eq!(enter(at, 366, &[8_388_608; 6]), Refused(5));
-    assert_eq!(enter(at, 366, &[8_388_608; 7]), Refused(7));
-    assert_eq!(enter(at, 366, &RAIL), Refused(11));
+    assert_eq!(refused(at, 366, &[8_388_608; 6]), 5);
+    assert_eq!(refused(at, 366, &[8_388_608; 7]), 7);
+    assert_eq!(refused(at, 366, &RAIL), 11);
     assert_eq!(enter(at, 1, &RAIL), Overloaded { place: 2 });
     assert_eq!(enter(at, 2, &CONSTANT), Dead);
-    assert_eq!(enter(at, 2, &KEPT), Refused(12));
+    assert_eq!(refused(at, 2, &KEPT), 12);
     assert_eq!(counts(at), [363, 1, 1, 1, 0]);
 }
 
@@ -122,19 +135,16 @@ fn a_withdrawal_frees_its_slot_and_leaves_zeros() {
     for day in [5, 6, 7] {
         enter(at, day, &KEPT);
     }
-    assert_eq!(at.0.withdraw(&mut at.1, 6), Ok(()));
+    assert_eq!(withdraw(at, 6), 0);
     assert_eq!(at.1.store[7..14], [0; 7]);
-    assert_eq!(at.0.withdraw(&mut at.1, 6), Err(13));
-    assert_eq!(at.0.withdraw(&mut at.1, 8), Err(13));
-    assert_eq!(
-        [0, 367].map(|day| at.0.withdraw(&mut at.1, day)),
-        [Err(10), Err(10)]
-    );
-    assert_eq!(at.0.withdraw(&mut at.1, 5), Ok(()));
+    assert_eq!(withdraw(at, 6), 13);
+    assert_eq!(withdraw(at, 8), 13);
+    assert_eq!([0, 367].map(|day| withdraw(at, day)), [10, 10]);
+    assert_eq!(withdraw(at, 5), 0);
     assert_eq!(enter(at, 9, &KEPT), Kept { slot: 0 });
     assert_eq!(enter(at, 6, &KEPT), Kept { slot: 1 });
     for day in [6, 7, 9] {
-        assert_eq!(at.0.withdraw(&mut at.1, day), Ok(()));
+        assert_eq!(withdraw(at, day), 0);
     }
     assert_eq!(at.1, fresh);
     assert_eq!(counts(at), [362, 0, 0, 0, 4]);
@@ -143,12 +153,12 @@ fn a_withdrawal_frees_its_slot_and_leaves_zeros() {
 #[test]
 fn response_and_summary_refuse_in_order() {
     let at = &mut campaign(1);
-    assert_eq!(response(at, 6, 7, 8), Err(6));
-    assert_eq!(response(at, 7, 6, 8), Err(6));
-    assert_eq!(response(at, 7, 7, 7), Err(6));
-    assert_eq!(response(at, 7, 7, 8), Err(14));
-    assert_eq!(summary(at, 7, 14), Summary::Refused(6));
-    assert_eq!(summary(at, 8, 13), Summary::Refused(6));
+    assert_eq!(response(at, 6, 7, 8), 6);
+    assert_eq!(response(at, 7, 6, 8), 6);
+    assert_eq!(response(at, 7, 7, 7), 6);
+    assert_eq!(response(at, 7, 7, 8), 14);
+    let short = Summary::Refused(Refusal::RoomTooShort);
+    assert_eq!([summary(at, 7, 14), summary(at, 8, 13)], [short, short]);
     assert_eq!(summary(at, 8, 14), Summary::NothingStands);
     enter(at, 1, &KEPT);
     let levels = Levels {
@@ -199,11 +209,12 @@ fn assert_refused_15(what: &str, spoil: impl Fn(&mut Campaign, &mut Lent)) {
     enter(&mut at, 1, &KEPT);
     spoil(&mut at.0, &mut at.1);
     let before = at.clone();
-    assert_eq!(enter(&mut at, 0, &[]), Refused(15), "{what}");
-    assert_eq!(at.0.withdraw(&mut at.1, 0), Err(15), "{what}");
-    assert_eq!(at.0.counts(&at.1), Err(15), "{what}");
-    assert_eq!(response(&at, 0, 0, 0), Err(15), "{what}");
-    assert_eq!(summary(&at, 0, 0), Summary::Refused(15), "{what}");
+    assert_eq!(refused(&mut at, 0, &[]), 15, "{what}");
+    assert_eq!(withdraw(&mut at, 0), 15, "{what}");
+    assert_eq!(number(&at.0.counts(&at.1)), 15, "{what}");
+    assert_eq!(response(&at, 0, 0, 0), 15, "{what}");
+    let broken = Summary::Refused(Refusal::DoesNotHoldTogether);
+    assert_eq!(summary(&at, 0, 0), broken, "{what}");
     assert_eq!(at, before, "{what}");
 }
 

@@ -139,7 +139,10 @@ fn a_refused_start_stops() {
     assert_eq!(refused(2, 4, 0, 0), "start 2\n");
     assert_eq!(refused(8, 29, 1, 0), "start 2\n");
     assert_eq!(refused(10, 2, 0, 0), "start 3\n");
-    assert_eq!(refused(10, 1, 0, 0), "start 4\n");
+    assert_eq!(refused(10, 1, 0, 0), "start 4 1\n");
+    assert_eq!(refused(4, 15, 0, 1), "start 4 5\n");
+    assert_eq!(refused(4, 5, 0, 0), "start 4 6\n");
+    assert_eq!(refused(16, 255, 255, 65), "start 4 17\n");
     assert_eq!(refused(16, 45, 0, 0), "start 9\n");
     assert_eq!(refused(16, 45, 0, 65), "start 9\n");
     assert_eq!(refused(10, 9, 0, 1), "start 17\n");

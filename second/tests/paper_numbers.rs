@@ -1,8 +1,8 @@
 //! The numbers 01 holds the meter to.
 
 use second::numbers::{digest, pattern, response_of};
-use second::refusal::number;
-use second::register::{check_taps, default_taps, first_return, period, sequence, signal};
+use second::refusal::{number, told_period};
+use second::register::{check_taps, default_taps, period, sequence, signal};
 use second::response::{mean, predict, predict_in_room, HIGHEST, LOWEST};
 
 fn bits(order: u32, taps: u32) -> Vec<u8> {
@@ -44,24 +44,27 @@ fn p3_to_p6() {
 #[test]
 fn p7_to_p12() {
     assert_eq!(bits(2, 3), [1, 1, 0]);
-    assert_eq!(check_taps(2, 3), Ok(()));
-    assert_eq!(check_taps(2, 1), Err(4));
-    assert_eq!(check_taps(2, 2), Err(3));
-    assert_eq!(check_taps(2, 4), Err(2));
-    assert_eq!((check_taps(4, 15), first_return(4, 15)), (Err(4), 5));
-    assert_eq!((check_taps(4, 5), first_return(4, 5)), (Err(4), 6));
+    let answer = |order, taps| {
+        let answer = check_taps(order, taps);
+        (number(&answer), told_period(&answer))
+    };
+    assert_eq!(answer(2, 3), (0, Some(3)));
+    assert_eq!(answer(2, 1), (4, Some(1)));
+    assert_eq!(answer(2, 2), (3, None));
+    assert_eq!(answer(2, 4), (2, None));
+    assert_eq!(answer(4, 15), (4, Some(5)));
+    assert_eq!(answer(4, 5), (4, Some(6)));
 }
 
 #[test]
 fn orders_and_their_default_taps() {
-    assert_eq!((check_taps(1, 3), check_taps(17, 3)), (Err(1), Err(1)));
-    assert_eq!((default_taps(1), default_taps(17)), (Err(1), Err(1)));
+    for order in [1, 17] {
+        assert_eq!(number(&check_taps(order, 3)), 1);
+        assert_eq!(number(&default_taps(order)), 1);
+    }
     for order in 2..=16 {
-        assert_eq!(
-            check_taps(order, default_taps(order).unwrap()),
-            Ok(()),
-            "order {order}"
-        );
+        let taps = default_taps(order).unwrap();
+        assert_eq!(check_taps(order, taps), Ok(period(order)), "order {order}");
     }
 }
 
@@ -88,7 +91,7 @@ fn a_prediction_in_a_lent_room() {
     );
     assert_eq!(number(&predict_in_room(3, 3, &loud, &mut y, &mut room)), 8);
     assert_eq!((y, room), ([9; 8], [9; 9]));
-    assert_eq!(predict_in_room(3, 3, &h, &mut y, &mut room), Ok(()));
+    assert_eq!(predict_in_room(3, 3, &h, &mut y, &mut room), Ok(7));
     assert_eq!(y, [-1, -3, -1, 3, 3, -3, 1, 9]);
     assert_eq!(room, [0, 0, 0, 0, 0, 0, 0, 0, 9]);
 }

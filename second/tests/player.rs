@@ -1,6 +1,7 @@
 //! The player.
 
 use second::player::Player;
+use second::refusal::number;
 use second::register::signal;
 
 #[test]
@@ -34,9 +35,8 @@ fn its_count_returns_to_zero() {
 
 #[test]
 fn making_one_refuses_1_2_3() {
-    assert_eq!(Player::new(1, 3), Err(1));
-    assert_eq!(Player::new(3, 8), Err(2));
-    assert_eq!(Player::new(3, 2), Err(3));
+    let made = |order, taps| number(&Player::new(order, taps));
+    assert_eq!([made(1, 3), made(3, 8), made(3, 2)], [1, 2, 3]);
 }
 
 #[test]
@@ -55,7 +55,7 @@ fn a_refused_step_leaves_it_as_it_was() {
             count: 5,
         };
         let before = player.clone();
-        assert_eq!(player.step(), Err(refusal));
+        assert_eq!(number(&player.step()), refusal);
         assert_eq!(player, before);
     }
 }

@@ -1,5 +1,5 @@
 -- What the checks of a start, an entry and a withdrawal have shown where none refuses. Assumes nothing.
-use mathlib.Core.Path.{_≡_, sym, ap, _∙_}
+use mathlib.Core.Path.{_≡_, refl, sym, ap, _∙_}
 use mathlib.Core.Bool.{false, cond}
 use mathlib.Core.List.{List}
 use Prim.Native.Nat.{ℕ, _+_, _-_, _*_, _^_, _≤_, _<_}
@@ -13,11 +13,11 @@ use lib.ListN.{length}
 use Rattle.sums.specs.Lists.{at, many}
 use Rattle.sums.specs.Refusals.{first}
 use Rattle.sums.proofs.Everywhere.{many-none}
-use Rattle.sums.proofs.First.{passes, accepts, or-false}
+use Rattle.sums.proofs.First.{passes, accepts, or-false, read-off}
 use Rattle.sums.proofs.Seek.{First, seek-first}
 use Rattle.sums.proofs.Sum.{sum-ext, sum-one}
 use Rattle.register.specs.Register.{P, Accepted}
-use Rattle.register.specs.Calls.{tapsChecks, tapsAnswer}
+use Rattle.register.specs.Calls.{tapsChecks, answerOf, tapsAnswer}
 use Rattle.register.proofs.Judged.{accepted-exactly}
 use Rattle.register.proofs.Word.{small}
 use Rattle.records.specs.Record.{standing, state, daysIn, slot, free}
@@ -26,7 +26,8 @@ use Rattle.records.proofs.Holding.{Filed, Together, not-apart}
 use Rattle.records.proofs.Refiling.{Day}
 use Rattle.records.proofs.Tallying.{used-standing}
 use Rattle.records.proofs.Totals.{sum-small}
-use Rattle.campaign.specs.Calls.{dayOut, startChecks, enterChecks, withdrawChecks, lowestFree, slotOfDay}
+use Rattle.campaign.specs.declared.Started.{Started}
+use Rattle.campaign.specs.Calls.{dayOut, startChecks, startOutcome, enterChecks, withdrawChecks, lowestFree, slotOfDay}
 
 pub in-day : (d : ℕ) → dayOut d ≡ false → Day d
 in-day d h = let two = or-false (ltb d 1) (ltb 366 d) h in record { first = ltb-false d 1 (two .0); last = ltb-false 366 d (two .1) }
@@ -105,6 +106,13 @@ begins N taps C store sums z =
       store-long = ltb-false (length store) (C * P N) (six .0);
       sums-long = ltb-false (length sums) (P N) (six .1);
     }
+
+-- a start's answer, told with the period, and so the period that goes with its number
+pub start-tells : (c : Campaign) (N taps C : ℕ) (store sums : List ℤ)
+    → startOutcome c N taps C store sums .0 .answer ≡ answerOf N taps (first (startChecks N taps C store sums))
+unfolding startOutcome
+start-tells c N taps C store sums =
+    read-off (startChecks N taps C store sums) (λ (o : Started × List ℤ × List ℤ). o .0 .answer) (answerOf N taps) _ _ (λ n. refl) refl
 
 pub record Withdraws (c : Campaign) (store sums : List ℤ) (d : ℕ) : Type 0 where
   pub whole : Together c store sums

@@ -10,7 +10,7 @@ use Rattle.sums.specs.Lists.{at, table, put, putAt, seek, every}
 use Rattle.sums.specs.Equal.{eqZ}
 use Rattle.sums.specs.Refusals.{outcome, Meaning, accepts, refuses}
 use Rattle.register.specs.Register.{P}
-use Rattle.register.specs.Calls.{tapsChecks}
+use Rattle.register.specs.Calls.{tapsChecks, answerOf}
 use Rattle.samples.specs.Samples.{lengthOff, someOut, rail, clearedWide}
 use Rattle.records.specs.Record.{standing, overloaded, dead, withdrawn, stands, daysIn, slot, free, base, sample, apart, fresh, marked, filed}
 use Rattle.records.specs.declared.Campaign.{Campaign}
@@ -32,7 +32,7 @@ slotsOut C = ltb C 1 || ltb 64 C
 abbrev pub dayOut : ℕ → Bool
 dayOut d = ltb d 1 || ltb 366 d
 
--- ---- start: 1, 2, 3, 4, 9, 6; the answer with the record, the store and the sums
+-- ---- start: 1, 2, 3, 4, 9, 6; the answer, told with the period, with the record, the store and the sums
 
 abbrev pub startChecks : ℕ → ℕ → ℕ → List ℤ → List ℤ → List (ℕ × Bool)
 startChecks N taps C store sums =
@@ -40,8 +40,8 @@ startChecks N taps C store sums =
 
 unfoldable pub startOutcome : Campaign → ℕ → ℕ → ℕ → List ℤ → List ℤ → Started × List ℤ × List ℤ
 startOutcome c N taps C store sums =
-    outcome (startChecks N taps C store sums) (λ n. (record { answer = n; campaign = c }, store, sums)) (
-      record { answer = 0; campaign = fresh N taps C },
+    outcome (startChecks N taps C store sums) (λ n. (record { answer = answerOf N taps n; campaign = c }, store, sums)) (
+      record { answer = answerOf N taps 0; campaign = fresh N taps C },
       clearedWide (C * P N) store,
       clearedWide (P N) sums,
     )

@@ -5,10 +5,11 @@ pub mod starting;
 pub mod withdrawing;
 
 use records::Campaign;
+use register::Answer;
 
 // A start's answer, and the record that it made, or that it was given.
 pub struct Started {
-    pub answer: u32,
+    pub answer: Answer,
     pub campaign: Campaign,
 }
 

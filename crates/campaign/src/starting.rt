@@ -5,7 +5,8 @@ use records::MOST_SLOTS;
 use records::filing::blank;
 use records::tables::outside;
 use register::shift::full_period;
-use register::taps::check_taps;
+use register::taps::taps_refusal;
+use register::telling::tell;
 use samples::clearing::clear_samples;
 use samples::clearing::clear_wide;
 ghost use mathlib.Core.Path.{_≡_};
@@ -30,7 +31,7 @@ fn memory_short(capacity: usize, period: usize, store: usize, sums: usize) -> bo
 pub fn start_refusal(order: u32, taps: u32, capacity: u32, store: usize, sums: usize) -> u32
     ensures { λ n. ⌜ n ≡ first (tapsChecks order taps ++ (9, slotsOut capacity) ∷ (6, ltb store (capacity * P order) || ltb sums (P order)) ∷ []) ⌝ }
 {
-    let refusal = check_taps(order, taps);
+    let refusal = taps_refusal(order, taps);
     if refusal != 0 {
         return refusal;
     }
@@ -55,9 +56,10 @@ pub fn start(
     ensures { λ r. ⌜ (r, now (store .exit), now (sums .exit)) ≡ startOutcome c order taps capacity (now (store .entry)) (now (sums .entry)) ⌝ }
 {
     let refusal = start_refusal(order, taps, capacity, store.len(), sums.len());
+    let answer = tell(order, taps, refusal);
     if refusal != 0 {
         return Started {
-            answer: refusal,
+            answer,
             campaign: c,
         };
     }
@@ -65,7 +67,7 @@ pub fn start(
     clear_samples(store, capacity as usize * period);
     clear_wide(sums, period);
     Started {
-        answer: 0,
+        answer,
         campaign: blank(order, taps, capacity),
     }
 }

@@ -4,12 +4,11 @@ use mathlib.Core.Path.{_≡_, refl, sym, ap}
 use mathlib.Core.Bool.{Bool, true, false, cond, not, _&&_}
 use mathlib.Core.List.{List, [], _∷_, _++_}
 use Prim.Native.Nat.{ℕ, zero, suc}
-use native.Mathlib.Omega.{arith}
 use lib.Dec.{T, eqb, ltb}
 use lib.IntN.{ℤ}
 use lib.ListN.{length}
-use Rattle.sums.specs.Refusals.{first, answered, outcome}
-use Rattle.sums.proofs.First.{numbered}
+use Rattle.sums.specs.Refusals.{first, answered}
+use Rattle.sums.proofs.First.{numbered, refused-same}
 use Rattle.records.specs.Record.{standing, daysIn}
 use Rattle.records.specs.declared.Campaign.{Campaign}
 use Rattle.campaign.specs.Calls.{startChecks, startOutcome, enterChecks, railPlace, still, entered, enterOutcome, withdrawChecks, withdrawOutcome, verdictNumber}
@@ -18,29 +17,6 @@ use Rattle.campaign.specs.declared.Entered.{Entered}
 use Rattle.campaign.specs.declared.Withdrawn.{Withdrawn}
 use Rattle.campaign.specs.declared.Verdict.the-variants as verdict
 use Rattle.history.specs.Run.{World, Call, start, enter, withdraw, counts, response, summary, after, answer}
-
--- a refusal tells its number, and what is accepted tells 0
-module _ {A : Type 0} (checks : List (ℕ × Bool)) (number : A → ℕ) (back : ℕ → A) (accepted : A) (told : (n : ℕ) → number (back n) ≡ n) where
-  pub answers-first : number accepted ≡ 0 → number (outcome checks back accepted) ≡ first checks
-  answers-first none = go (first checks)
-    where
-      go : (n : ℕ) → number (answered n back accepted) ≡ n
-      go zero = none
-      go (suc n) = told (suc n)
-
-  pub refused-same : number accepted ≡ 0 → (number (outcome checks back accepted) ≡ 0 → ⊥) → outcome checks back accepted ≡ back (number (outcome checks back accepted))
-  refused-same none = go (first checks)
-    where
-      go : (n : ℕ) → (number (answered n back accepted) ≡ 0 → ⊥) → answered n back accepted ≡ back (number (answered n back accepted))
-      go zero h = absurd (h none)
-      go (suc n) h = ap back (sym (told (suc n)))
-
-  pub accepted-is : number (outcome checks back accepted) ≡ 0 → outcome checks back accepted ≡ accepted
-  accepted-is = go (first checks)
-    where
-      go : (n : ℕ) → number (answered n back accepted) ≡ 0 → answered n back accepted ≡ accepted
-      go zero e = refl
-      go (suc n) e = absurd (omega (arith, told (suc n)))
 
 -- in either of two cases
 pub either-0 : {A : Type 0} (number : A → ℕ) (b : Bool) (x y : A) → number x ≡ 0 → number y ≡ 0 → number (cond b x y) ≡ 0
@@ -93,7 +69,7 @@ pub refused-leaves : (w : World) (call : Call) → (answer w call ≡ 0 → ⊥)
 unfolding startOutcome withdrawOutcome
 refused-leaves w (start N taps C) h =
     ap (λ (o : Started × List ℤ × List ℤ). record { campaign = o .0 .campaign; store = o .1; sums = o .2 })
-    (refused-same (startChecks N taps C (w .store) (w .sums)) (λ (o : Started × List ℤ × List ℤ). o .0 .answer) _ _ (λ n. refl) refl h)
+    (refused-same (startChecks N taps C (w .store) (w .sums)) (λ (o : Started × List ℤ × List ℤ). o .0 .answer .number) _ _ (λ n. refl) refl h)
 refused-leaves w (enter d y) h =
     ap (λ (o : Entered × List ℤ × List ℤ). record { campaign = o .0 .campaign; store = o .1; sums = o .2 })
     (entry-refused-same (w .campaign) (w .store) (w .sums) d y h)

@@ -22,7 +22,9 @@ use Rattle.sums.specs.Lists.{at, table, put, putAt, seek, some, every, many}
 use Rattle.sums.specs.Refusals.{first, numbers, outcome}
 use Rattle.register.specs.Register.{P, dot, step, window, bit, wave, period, Maximal}
 use Rattle.register.proofs.OddTaps.{accepted-maximal}
-use Rattle.register.specs.Calls.{orderOut, shapeChecks, tapsChecks, tapsAnswer, sequenceChecks, sequenceOutcome}
+use Rattle.register.specs.Calls.{orderOut, told, answerOf, shapeChecks, tapsChecks, tapsAnswer, sequenceChecks, sequenceOutcome}
+use Rattle.register.proofs.HowShort.{Tells}
+use Rattle.register.proofs.HowShort as period
 use Rattle.defaults.specs.Calls.{defaultOutcome, defaultNumber}
 use Rattle.defaults.specs.declared.DefaultTaps.the-variants as default
 use Rattle.player.specs.Calls.{newOutcome, stepChecks, stepOutcome, playOutcome, newNumber, tickNumber}
@@ -40,6 +42,7 @@ use Rattle.records.proofs.Refiling.{Day}
 use Rattle.records.specs.declared.Campaign.{Campaign}
 use Rattle.campaign.specs.Calls.{startChecks, startOutcome, enterChecks, railPlace, still, entered, enterOutcome, withdrawChecks, withdrawOutcome, verdictNumber}
 use Rattle.campaign.specs.declared.Started.{Started}
+use Rattle.campaign.proofs.Passing.{start-tells}
 use Rattle.campaign.specs.declared.Entered.{Entered}
 use Rattle.campaign.specs.declared.Withdrawn.{Withdrawn}
 use Rattle.campaign.specs.declared.Verdict.the-variants as verdict
@@ -53,7 +56,8 @@ use Rattle.history.proofs.UnderWay.{from-start}
 use Rattle.history.proofs.EveryRun as every-run
 use Rattle.history.proofs.AsIf as as-if
 use Rattle.demands.specs.Buffers.{KeepsTail}
-use Rattle.demands.proofs.Checking.{answers-first, refused-same, either-0, entry-answers-first, entry-refused-same, refused-leaves}
+use Rattle.sums.proofs.First.{answers-first, refused-same}
+use Rattle.demands.proofs.Checking.{either-0, entry-answers-first, entry-refused-same, refused-leaves}
 use Rattle.demands.proofs.Tails.{sequence-tail, recording-tails, prediction-tail, prediction-in-room-tails, start-tails, enter-tails, withdraw-tails, response-tails, summary-tails}
 use Rattle.demands.proofs.Measuring.{sequence-at, response-at, response-small, prediction-at, prediction-in-room-at}
 
@@ -94,8 +98,8 @@ pub record Refusals : Type 0 where
       (roomedOutcome N taps h out room)
   pub default-taps : (N : ℕ) → Checked (1 ∷ []) ((1, orderOut N) ∷ []) defaultNumber default.Refused (defaultOutcome N)
   pub start : (c : Campaign) (N taps C : ℕ) (store sums : List ℤ)
-      → Checked (1 ∷ 2 ∷ 3 ∷ 4 ∷ 9 ∷ 6 ∷ []) (startChecks N taps C store sums) (λ (o : Started × List ℤ × List ℤ). o .0 .answer)
-      (λ n. (record { answer = n; campaign = c }, store, sums)) (startOutcome c N taps C store sums)
+      → Checked (1 ∷ 2 ∷ 3 ∷ 4 ∷ 9 ∷ 6 ∷ []) (startChecks N taps C store sums) (λ (o : Started × List ℤ × List ℤ). o .0 .answer .number)
+      (λ n. (record { answer = answerOf N taps n; campaign = c }, store, sums)) (startOutcome c N taps C store sums)
   pub enter : (c : Campaign) (store sums : List ℤ) (d : ℕ) (y : List ℤ)
       → Checked (15 ∷ 10 ∷ 5 ∷ 7 ∷ 11 ∷ 12 ∷ []) (enterAll c store sums d y) (λ (o : Entered × List ℤ × List ℤ). verdictNumber (o .0 .entry .verdict))
       (λ n. (entered c d (verdict.Refused n), store, sums)) (enterOutcome c store sums d y)
@@ -207,6 +211,40 @@ demand-2 =
       prediction-in-room = prediction-in-room-at;
     }
 
+-- ---- Document 02: "The maximality check must answer the number of steps after which the register first returns to all ones. Every call that can refuse with
+-- 4 passes the number on. Accepted taps answer P."
+--
+-- Beside its number n such a call tells `told N taps n was`, where `was` is 0 in the library's answer, and in C what the caller's number held. `Tells`:
+-- where n is 0 that is P; where n is 4 the register is back at all ones after that many steps and no fewer, and they are fewer than P; where n is
+-- another refusal it is `was`.
+
+pub record Periods : Type 0 where
+  pub taps-check : (N taps was : ℕ) → let n = tapsAnswer N taps in Tells N taps n (told N taps n was) was
+  pub sequence : (N taps was : ℕ) (out : List ℕ) → let n = sequenceOutcome N taps out .0 in Tells N taps n (told N taps n was) was
+  pub recording : (N taps was : ℕ) (y out room : List ℤ) (tags : List ℕ) → let n = recordingOutcome N taps y out room tags .0 in
+      Tells N taps n (told N taps n was) was
+  pub prediction : (N taps was : ℕ) (h out : List ℤ) → let n = predictionOutcome N taps h out .0 in Tells N taps n (told N taps n was) was
+  pub prediction-in-room : (N taps was : ℕ) (h out room : List ℤ) → let n = roomedOutcome N taps h out room .0 in Tells N taps n (told N taps n was) was
+  pub start : (c : Campaign) (N taps C : ℕ) (store sums : List ℤ) → let a = startOutcome c N taps C store sums .0 .answer in
+      Tells N taps (a .number) (a .period) 0
+
+pub how-short : Periods
+unfolding tapsAnswer sequenceOutcome recordingOutcome predictionOutcome roomedOutcome
+how-short =
+    record {
+      taps-check = λ N taps was. period.how-short N taps (tapsChecks N taps) refl tt was;
+      sequence = λ N taps was out.
+          period.how-short-by N taps (sequenceChecks N taps out) refl (λ (o : ℕ × List ℕ). o .0) _ _ (λ n. refl) refl refl tt was;
+      recording = λ N taps was y out room tags.
+          period.how-short-by N taps (recordingChecks N taps y out room tags) refl (λ (o : ℕ × List ℤ × List ℤ × List ℕ). o .0) _ _ (λ n. refl) refl refl tt was;
+      prediction = λ N taps was h out.
+          period.how-short-by N taps (predictionChecks N taps h out) refl (λ (o : ℕ × List ℤ). o .0) _ _ (λ n. refl) refl refl tt was;
+      prediction-in-room = λ N taps was h out room.
+          period.how-short-by N taps (roomedChecks N taps h out room) refl (λ (o : ℕ × List ℤ × List ℤ). o .0) _ _ (λ n. refl) refl refl tt was;
+      start = λ c N taps C store sums.
+          rw (start-tells c N taps C store sums) (period.how-short N taps (startChecks N taps C store sums) refl tt 0);
+    }
+
 -- ---- 3. "After any run of calls from a fresh campaign, refused ones included and its lent memory untouched between, each day's state is what the last
 -- accepted call naming that day made it, or unseen if there was none. The sums total, place by place, the last recordings accepted for exactly the days
 -- then standing. If at least one day stands, and each such recording is the circular convolution of a whole-number response with the sequence, the
@@ -264,7 +302,7 @@ said w₀ cs u =
     }
 
 -- so of every run that begins with an accepted start
-pub demand-3 : (w₀ : World) (N taps C : ℕ) → startOutcome (w₀ .campaign) N taps C (w₀ .store) (w₀ .sums) .0 .answer ≡ 0
+pub demand-3 : (w₀ : World) (N taps C : ℕ) → startOutcome (w₀ .campaign) N taps C (w₀ .store) (w₀ .sums) .0 .answer .number ≡ 0
     → (cs : List Call) → let all = cs ++ call.start N taps C ∷ [] in Said w₀ all (run w₀ all)
 demand-3 w₀ N taps C e cs = said _ _ (from-start w₀ N taps C e cs)
 
@@ -353,7 +391,7 @@ abbrev pub asked : World → ℕ × List ℤ × List ℤ × List ℤ × List ℕ
 asked w = responseOutcome (w .campaign) (w .store) (w .sums) (replicate 4 (pos 9)) (replicate 3 (pos 9)) (replicate 4 (pos 9)) (replicate 6 9)
 
 pub record Witness : Type 0 where
-  pub started : startOutcome (lent .campaign) 2 3 2 (lent .store) (lent .sums) .0 .answer ≡ 0
+  pub started : startOutcome (lent .campaign) 2 3 2 (lent .store) (lent .sums) .0 .answer .number ≡ 0
   pub begins : run lent (call.start 2 3 2 ∷ []) ≡ began
   pub first-night : (answer began (call.enter 1 night-1) ≡ 0) × (run lent (call.enter 1 night-1 ∷ call.start 2 3 2 ∷ []) ≡ one-night)
   pub second-night : (answer one-night (call.enter 2 night-2) ≡ 0) × (run lent nights ≡ two-nights)
@@ -362,6 +400,9 @@ pub record Witness : Type 0 where
   pub days : (made lent (call.withdraw 1 ∷ nights) 1 ≡ withdrawn) × (made lent (call.withdraw 1 ∷ nights) 2 ≡ standing)
       × (made lent (call.withdraw 1 ∷ nights) 3 ≡ unseen)
   pub second : asked one-left ≡ (0, pos 4 ∷ pos 0 ∷ pos 0 ∷ pos 9 ∷ [], pos 1 ∷ pos 0 ∷ pos 0 ∷ [], replicate 4 (pos 0), replicate 6 0)
+  -- a start refused with 4 tells after how many steps the register returns
+  pub short-start : startOutcome (lent .campaign) 4 15 2 (lent .store) (lent .sums)
+      ≡ (record { answer = record { number = 4; period = 5 }; campaign = lent .campaign }, lent .store, lent .sums)
   -- a refused start leaves the campaign, an accepted one begins another
   pub refused-start : (answer two-nights (call.start 17 3 2) ≡ 1) × (after two-nights (call.start 17 3 2) ≡ two-nights)
   pub new-start : (answer two-nights (call.start 2 3 1) ≡ 0)
@@ -372,7 +413,7 @@ pub record Witness : Type 0 where
         sums = pos 0 ∷ pos 0 ∷ pos 0 ∷ pos 9 ∷ [];
       })
 
-start-computed : (startOutcome (lent .campaign) 2 3 2 (lent .store) (lent .sums) .0 .answer ≡ 0) × (after lent (call.start 2 3 2) ≡ began)
+start-computed : (startOutcome (lent .campaign) 2 3 2 (lent .store) (lent .sums) .0 .answer .number ≡ 0) × (after lent (call.start 2 3 2) ≡ began)
 unfolding startOutcome period seek table put window step dot ones
 start-computed = (refl, refl)
 
@@ -409,6 +450,7 @@ witness =
       withdrawal = (withdrawal-computed .0, led .3);
       days = (day 1 (omega arith) (omega arith), day 2 (omega arith) (omega arith), day 3 (omega arith) (omega arith));
       second = refl;
+      short-start = refl;
       refused-start = (refl, refl);
       new-start = (refl, refl);
     }

@@ -5,6 +5,7 @@ use mathlib.Core.List.{List}
 use Prim.Native.Nat.{ℕ}
 use denote.Ref.{now}
 use lib.IntN.{ℤ}
+use Rattle.register.proofs.HowShort.{same-told}
 use Rattle.player.specs.declared.Player.{Player}
 use Rattle.trend.specs.declared.Tally.{Tally}
 use Rattle.trend.specs.declared.Levels.{Levels}
@@ -41,14 +42,15 @@ use Rattle.meter.proofs.campaigns.meter_response.Reads as response
 use Rattle.meter.proofs.campaigns.meter_summary.Kinds as summary-kinds
 use Rattle.meter.proofs.campaigns.meter_summary.Reads as summary
 
-pub taps-determined : Determined 0 taps-kinds.ps taps-kinds.r ℕ taps.Learnt (λ κs r s. r)
-taps-determined κs a x y s t p q = p ∙ sym q
+-- of a door with a period: the answer with what is lent, and the period
+pub taps-determined : Determined 1 taps-kinds.ps taps-kinds.r (ℕ × ℕ) taps.Learnt (λ κs r s. (r, now (s .1 .1 .0)))
+taps-determined κs a x y s t p q = same-told (a .0) (a .1 .0) (now (a .1 .1 .0)) (λ n. n) p q
 
 pub default-taps-determined : Determined 1 default-taps-kinds.ps default-taps-kinds.r (ℕ × ℕ) default-taps.Learnt (λ κs r s. (r, now (s .1 .0)))
 default-taps-determined κs a x y s t p q = p ∙ sym q
 
-pub sequence-determined : Determined 1 sequence-kinds.ps sequence-kinds.r (ℕ × List ℕ) sequence.Learnt (λ κs r s. (r, now (s .1 .1 .0)))
-sequence-determined κs a x y s t p q = p ∙ sym q
+pub sequence-determined : Determined 2 sequence-kinds.ps sequence-kinds.r ((ℕ × List ℕ) × ℕ) sequence.Learnt (λ κs r s. ((r, now (s .1 .1 .0)), now (s .1 .1 .1 .0)))
+sequence-determined κs a x y s t p q = same-told (a .0) (a .1 .0) (now (a .1 .1 .1 .0)) (λ (o : ℕ × List ℕ). o .0) p q
 
 pub player-new-determined : Determined 4 player-new-kinds.ps player-new-kinds.r (ℕ × Player) player-new.Learnt (λ κs r s. (r, playerOf (now (s .1 .1 .0)) (now (s .1 .1 .1 .0)) (now (s .1 .1 .1 .1 .0)) (now (s .1 .1 .1 .1 .1 .0))))
 player-new-determined κs a x y s t p q = p ∙ sym q
@@ -59,17 +61,21 @@ player-step-determined κs a x y s t p q = p ∙ sym q
 pub player-play-determined : Determined 5 player-play-kinds.ps player-play-kinds.r (ℕ × Player × List ℤ) player-play.Learnt (λ κs r s. (r, playerOf (now (s .0)) (now (s .1 .0)) (now (s .1 .1 .0)) (now (s .1 .1 .1 .0)), now (s .1 .1 .1 .1 .0)))
 player-play-determined κs a x y s t p q = p ∙ sym q
 
-pub recording-determined : Determined 4 recording-kinds.ps recording-kinds.r (ℕ × List ℤ × List ℤ × List ℕ) recording.Learnt (λ κs r s. (r, now (s .1 .1 .1 .0), now (s .1 .1 .1 .1 .0), now (s .1 .1 .1 .1 .1 .0)))
-recording-determined κs a x y s t p q = p ∙ sym q
+pub recording-determined : Determined 5 recording-kinds.ps recording-kinds.r ((ℕ × List ℤ × List ℤ × List ℕ) × ℕ) recording.Learnt
+    (λ κs r s. ((r, now (s .1 .1 .1 .0), now (s .1 .1 .1 .1 .0), now (s .1 .1 .1 .1 .1 .0)), now (s .1 .1 .1 .1 .1 .1 .0)))
+recording-determined κs a x y s t p q = same-told (a .0) (a .1 .0) (now (a .1 .1 .1 .1 .1 .1 .0)) (λ (o : ℕ × List ℤ × List ℤ × List ℕ). o .0) p q
 
-pub predict-determined : Determined 2 predict-kinds.ps predict-kinds.r (ℕ × List ℤ) predict.Learnt (λ κs r s. (r, now (s .1 .1 .1 .0)))
-predict-determined κs a x y s t p q = p ∙ sym q
+pub predict-determined : Determined 3 predict-kinds.ps predict-kinds.r ((ℕ × List ℤ) × ℕ) predict.Learnt (λ κs r s. ((r, now (s .1 .1 .1 .0)), now (s .1 .1 .1 .1 .0)))
+predict-determined κs a x y s t p q = same-told (a .0) (a .1 .0) (now (a .1 .1 .1 .1 .0)) (λ (o : ℕ × List ℤ). o .0) p q
 
-pub predict-in-room-determined : Determined 3 predict-in-room-kinds.ps predict-in-room-kinds.r (ℕ × List ℤ × List ℤ) predict-in-room.Learnt (λ κs r s. (r, now (s .1 .1 .1 .0), now (s .1 .1 .1 .1 .0)))
-predict-in-room-determined κs a x y s t p q = p ∙ sym q
+pub predict-in-room-determined : Determined 4 predict-in-room-kinds.ps predict-in-room-kinds.r ((ℕ × List ℤ × List ℤ) × ℕ) predict-in-room.Learnt
+    (λ κs r s. ((r, now (s .1 .1 .1 .0), now (s .1 .1 .1 .1 .0)), now (s .1 .1 .1 .1 .1 .0)))
+predict-in-room-determined κs a x y s t p q = same-told (a .0) (a .1 .0) (now (a .1 .1 .1 .1 .1 .0)) (λ (o : ℕ × List ℤ × List ℤ). o .0) p q
 
-pub start-determined : Determined 4 start-kinds.ps start-kinds.r (ℕ × List ℕ × List ℕ × List ℤ × List ℤ) start.Learnt (λ κs r s. (r, now (s .1 .1 .1 .0), now (s .1 .1 .1 .1 .0), now (s .1 .1 .1 .1 .1 .0), now (s .1 .1 .1 .1 .1 .1 .0)))
-start-determined κs a x y s t p q = p ∙ sym q
+pub start-determined : Determined 5 start-kinds.ps start-kinds.r ((ℕ × List ℕ × List ℕ × List ℤ × List ℤ) × ℕ) start.Learnt
+    (λ κs r s. ((r, now (s .1 .1 .1 .0), now (s .1 .1 .1 .1 .0), now (s .1 .1 .1 .1 .1 .0), now (s .1 .1 .1 .1 .1 .1 .0)), now (s .1 .1 .1 .1 .1 .1 .1 .0)))
+start-determined κs a x y s t p q =
+    same-told (a .0) (a .1 .0) (now (a .1 .1 .1 .1 .1 .1 .1 .0)) (λ (o : ℕ × List ℕ × List ℕ × List ℤ × List ℤ). o .0) p q
 
 pub enter-determined : Determined 7 enter-kinds.ps enter-kinds.r (ℕ × List ℕ × List ℕ × List ℤ × List ℤ × ℕ × ℕ) enter.Learnt (λ κs r s. (r, now (s .1 .1 .1 .0), now (s .1 .1 .1 .1 .0), now (s .1 .1 .1 .1 .1 .0), now (s .1 .1 .1 .1 .1 .1 .0), now (s .1 .1 .1 .1 .1 .1 .1 .1 .1 .0), now (s .1 .1 .1 .1 .1 .1 .1 .1 .1 .1 .0)))
 enter-determined κs a x y s t p q = p ∙ sym q

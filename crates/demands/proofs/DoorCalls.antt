@@ -11,7 +11,8 @@ use lib.ListN.{length, length-replicate}
 use Rattle.sums.specs.Lists.{put}
 use Rattle.sums.specs.Refusals.{first, numbers, answered, outcome}
 use Rattle.register.specs.Register.{P}
-use Rattle.register.specs.Calls.{orderOut, shapeChecks}
+use Rattle.register.specs.Calls.{orderOut, told, shapeChecks}
+use Rattle.register.proofs.HowShort.{Tells, how-short-by}
 use Rattle.player.specs.Calls.{stepChecks}
 use Rattle.player.specs.declared.Player.{Player}
 use Rattle.samples.specs.Samples.{clearedWide}
@@ -193,3 +194,10 @@ tails =
 
 pub door-demand-1 : DoorRefusals × DoorTails
 door-demand-1 = (refusals, tails)
+
+-- the period that a start tells in C's own number for it; the other doors tell theirs as `how-short` says
+pub start-how-short : (N taps C was : ℕ) (days slots : List ℕ) (store sums : List ℤ) → let n = startDoor N taps C days slots store sums .0 in
+    Tells N taps n (told N taps n was) was
+unfolding startDoor
+start-how-short N taps C was days slots store sums =
+    how-short-by N taps (startDoorChecks N taps C days slots store sums) refl (λ (o : ℕ × List ℕ × List ℕ × List ℤ × List ℤ). o .0) _ _ (λ n. refl) refl refl tt was

@@ -11,6 +11,7 @@ use lib.Seq.{length-take-le}
 use Rattle.sums.specs.Lists.{put}
 use Rattle.sums.specs.Refusals.{first, answered}
 use Rattle.register.specs.Register.{P}
+use Rattle.register.specs.Calls.{answerOf}
 use Rattle.samples.specs.Samples.{clearedWide}
 use Rattle.records.specs.Record.{fresh}
 use Rattle.records.specs.declared.Campaign.{Campaign}
@@ -102,8 +103,8 @@ module _ (l : Lent) (t : Long (l .days) (l .slots)) where
     start-opened = ap (λ n. answered n kept made) (long-checks N taps C (l .days) (l .slots) (l .store) (l .sums) open-tables)
 
     by-answer : (n : ℕ) → let o = answered n kept made in
-        let k = answered {A = Started × List ℤ × List ℤ} n (λ n. (record { answer = n; campaign = mine }, l .store, l .sums)) (record { answer = 0; campaign = fresh N taps C }, clearedWide (C * P N) (l .store), clearedWide (P N) (l .sums)) in
-        (worldOf (begins l N taps C o) ≡ worldWith (k .0 .campaign) (k .1) (k .2)) × (o .0 ≡ k .0 .answer) × Long (o .1) (o .2)
+        let k = answered {A = Started × List ℤ × List ℤ} n (λ n. (record { answer = answerOf N taps n; campaign = mine }, l .store, l .sums)) (record { answer = answerOf N taps 0; campaign = fresh N taps C }, clearedWide (C * P N) (l .store), clearedWide (P N) (l .sums)) in
+        (worldOf (begins l N taps C o) ≡ worldWith (k .0 .campaign) (k .1) (k .2)) × (o .0 ≡ k .0 .answer .number) × Long (o .1) (o .2)
     by-answer zero = (
       ap (λ c. worldWith c (clearedWide (C * P N) (l .store)) (clearedWide (P N) (l .sums))) (back-in N taps C (l .days) (l .slots) t (fresh N taps C) fresh-handed),
       refl,

@@ -22,7 +22,7 @@ use Rattle.response.specs.Calls.{recordingChecks, recordingOutcome}
 use Rattle.prediction.specs.Calls.{predictionChecks, predictionOutcome, roomedChecks, roomedOutcome}
 use Rattle.response.proofs.Register.{response-bound}
 use Rattle.samples.proofs.Sizes.{sample-size}
-use Rattle.demands.proofs.Checking.{answers-first, accepted-is}
+use Rattle.sums.proofs.First.{answers-first, accepted-is}
 
 pub sequence-at : (N taps : ℕ) (out : List ℕ) → sequenceOutcome N taps out .0 ≡ 0
     → (k : ℕ) → k < P N → getD (sequenceOutcome N taps out .1) k 0 ≡ window N taps k % 2

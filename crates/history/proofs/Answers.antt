@@ -1,17 +1,18 @@
 -- Where the record holds together no call answers 15, and a response with room enough and a day standing is accepted. Assumes nothing.
-use mathlib.Core.Path.{_≡_, refl, sym, ap, _∙_}
-use mathlib.Core.Bool.{Bool, true, false, cond, not, _&&_, _||_}
+use mathlib.Core.Path.{_≡_, sym, ap, _∙_}
+use mathlib.Core.Bool.{Bool, true, false, cond, not, _||_}
 use mathlib.Core.List.{List, [], _∷_}
 use Prim.Native.Nat.{ℕ, _+_, _*_, _≤_}
 use native.Mathlib.Omega.{arith}
-use borrow.Author.Tests.{le-ltb, ne-eqb, eqb-false}
+use borrow.Author.Tests.{le-ltb, ne-eqb}
 use lib.Dec.{T, eqb, ltb}
 use lib.IntN.{ℤ}
 use lib.ListN.{length}
 use Rattle.sums.specs.Lists.{table, put}
 use Rattle.sums.specs.Refusals.{first, outcome}
-use Rattle.sums.proofs.First.{accepts, outcome-cases}
+use Rattle.sums.proofs.First.{lacks, not-first, accepts, outcome-cases}
 use Rattle.register.specs.Register.{P}
+use Rattle.register.specs.Calls.{answerOf}
 use Rattle.samples.specs.Samples.{clearedWide, clearedTags}
 use Rattle.records.specs.Record.{standing, overloaded, dead, daysIn, together, fresh, marked}
 use Rattle.campaign.specs.Calls.{startChecks, enterChecks, withdrawChecks, railPlace, still, entered, keptOutcome, judgedOutcome, withdrawnOutcome, startOutcome, enterOutcome, withdrawOutcome, verdictNumber}
@@ -26,29 +27,6 @@ use Rattle.trend.specs.declared.Counts.{Counts}
 use Rattle.trend.specs.declared.Counts.the-variants as counted
 use Rattle.trend.specs.declared.Summary.{Summary}
 use Rattle.trend.specs.declared.Summary.the-variants as summed
-
--- a list of checks that has not the number n, nor 0
-abbrev pub lacks : ℕ → List (ℕ × Bool) → Bool
-lacks n [] = not (eqb 0 n)
-lacks n (check ∷ checks) = not (eqb (check .0) n) && lacks n checks
-
-negated : (x : Bool) → T (not x) → x ≡ false
-negated false t = refl
-negated true t = absurd t
-
-T-both : (a b : Bool) → T (a && b) → T a × T b
-T-both true b t = (tt, t)
-T-both false b t = absurd t
-
-pub not-first : (n : ℕ) (checks : List (ℕ × Bool)) → T (lacks n checks) → first checks ≡ n → ⊥
-not-first n [] t e = eqb-false 0 n (negated (eqb 0 n) t) e
-not-first n (check ∷ checks) t e =
-    let p = T-both (not (eqb (check .0) n)) (lacks n checks) t in
-    go (check .1) (p .0) (λ g. not-first n checks (p .1) g) e
-  where
-    go : (b : Bool) → T (not (eqb (check .0) n)) → (first checks ≡ n → ⊥) → cond b (check .0) (first checks) ≡ n → ⊥
-    go true p r e = eqb-false (check .0) n (negated (eqb (check .0) n) p) e
-    go false p r e = r e
 
 -- what an accepted response, and a summary of standing days, hand back
 abbrev pub responded : Campaign → List ℤ → List ℤ → List ℤ → List ℤ → List ℕ → ℕ × List ℤ × List ℤ × List ℤ × List ℕ
@@ -107,8 +85,8 @@ module _ (w : World) (t : together (w .campaign) (w .store) (w .sums) ≡ true) 
   unfolding startOutcome enterOutcome withdrawOutcome countsOutcome responseOutcome summaryOutcome
   never-fifteen (start N taps C) =
       outcome-cases {A = Started × List ℤ × List ℤ} (startChecks N taps C (w .store) (w .sums)) tt
-      (λ n. (record { answer = n; campaign = w .campaign }, w .store, w .sums))
-      (record { answer = 0; campaign = fresh N taps C }, clearedWide (C * P N) (w .store), clearedWide (P N) (w .sums)) (λ o. o .0 .answer ≡ 15 → ⊥)
+      (λ n. (record { answer = answerOf N taps n; campaign = w .campaign }, w .store, w .sums))
+      (record { answer = answerOf N taps 0; campaign = fresh N taps C }, clearedWide (C * P N) (w .store), clearedWide (P N) (w .sums)) (λ o. o .0 .answer .number ≡ 15 → ⊥)
       (λ n _ h g. not-first 15 (startChecks N taps C (w .store) (w .sums)) tt (h ∙ g)) (λ _ g. omega arith)
   never-fifteen (enter d y) =
       outcome-cases {A = Entered × List ℤ × List ℤ} (enterChecks (w .campaign) (w .store) (w .sums) d y) tt

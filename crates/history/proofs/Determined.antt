@@ -9,6 +9,8 @@ use denote.Ref.{now}
 use denote.Triple.Clauses.{AtExit}
 use lib.IntN.{ℤ}
 use Rattle.player.specs.Calls.{stepOutcome, playOutcome}
+use Rattle.register.specs.declared.Answer.{Answer}
+use Rattle.register.proofs.HowShort.{same-told}
 use Rattle.defaults.specs.declared.DefaultTaps.{DefaultTaps}
 use Rattle.player.specs.declared.NewPlayer.{NewPlayer}
 use Rattle.player.specs.declared.Player.{Player}
@@ -60,14 +62,15 @@ Determined n ps r A permits seen =
 
 -- ---- register
 
-pub check-taps-determined : Determined 0 check-taps-kinds.ps check-taps-kinds.r ℕ check-taps.Learnt (λ κs r s. r)
+pub check-taps-determined : Determined 0 check-taps-kinds.ps check-taps-kinds.r Answer check-taps.Learnt (λ κs r s. r)
 check-taps-determined κs a x y s t p q = p ∙ sym q
 
 pub default-taps-determined : Determined 0 default-taps-kinds.ps default-taps-kinds.r DefaultTaps default-taps.Learnt (λ κs r s. r)
 default-taps-determined κs a x y s t p q = p ∙ sym q
 
-pub sequence-determined : Determined 1 sequence-kinds.ps sequence-kinds.r (ℕ × List ℕ) sequence.Learnt (λ κs r s. (r, now (s .1 .1 .0)))
-sequence-determined κs a x y s t p q = p ∙ sym q
+-- of an answer with a period: its number with what is lent, and the period
+pub sequence-determined : Determined 1 sequence-kinds.ps sequence-kinds.r ((ℕ × List ℕ) × ℕ) sequence.Learnt (λ κs r s. ((r .number, now (s .1 .1 .0)), r .period))
+sequence-determined κs a x y s t p q = same-told (a .0) (a .1 .0) 0 (λ (o : ℕ × List ℕ). o .0) p q
 
 pub new-player-determined : Determined 0 new-player-kinds.ps new-player-kinds.r NewPlayer new-player.Learnt (λ κs r s. r)
 new-player-determined κs a x y s t p q = p ∙ sym q
@@ -90,14 +93,16 @@ fill-determined before l x y s t m n p q = ap (λ (o : Played × List ℤ). (o .
 
 -- ---- response
 
-pub one-recording-determined : Determined 4 one-recording-kinds.ps one-recording-kinds.r (ℕ × List ℤ × List ℤ × List ℕ) one-recording.Learnt (λ κs r s. (r, now (s .1 .1 .1 .0), now (s .1 .1 .1 .1 .0), now (s .1 .1 .1 .1 .1 .0)))
-one-recording-determined κs a x y s t p q = p ∙ sym q
+pub one-recording-determined : Determined 4 one-recording-kinds.ps one-recording-kinds.r ((ℕ × List ℤ × List ℤ × List ℕ) × ℕ) one-recording.Learnt
+    (λ κs r s. ((r .number, now (s .1 .1 .1 .0), now (s .1 .1 .1 .1 .0), now (s .1 .1 .1 .1 .1 .0)), r .period))
+one-recording-determined κs a x y s t p q = same-told (a .0) (a .1 .0) 0 (λ (o : ℕ × List ℤ × List ℤ × List ℕ). o .0) p q
 
-pub predict-determined : Determined 2 predict-kinds.ps predict-kinds.r (ℕ × List ℤ) predict.Learnt (λ κs r s. (r, now (s .1 .1 .1 .0)))
-predict-determined κs a x y s t p q = p ∙ sym q
+pub predict-determined : Determined 2 predict-kinds.ps predict-kinds.r ((ℕ × List ℤ) × ℕ) predict.Learnt (λ κs r s. ((r .number, now (s .1 .1 .1 .0)), r .period))
+predict-determined κs a x y s t p q = same-told (a .0) (a .1 .0) 0 (λ (o : ℕ × List ℤ). o .0) p q
 
-pub predict-in-room-determined : Determined 3 predict-in-room-kinds.ps predict-in-room-kinds.r (ℕ × List ℤ × List ℤ) predict-in-room.Learnt (λ κs r s. (r, now (s .1 .1 .1 .0), now (s .1 .1 .1 .1 .0)))
-predict-in-room-determined κs a x y s t p q = p ∙ sym q
+pub predict-in-room-determined : Determined 3 predict-in-room-kinds.ps predict-in-room-kinds.r ((ℕ × List ℤ × List ℤ) × ℕ) predict-in-room.Learnt
+    (λ κs r s. ((r .number, now (s .1 .1 .1 .0), now (s .1 .1 .1 .1 .0)), r .period))
+predict-in-room-determined κs a x y s t p q = same-told (a .0) (a .1 .0) 0 (λ (o : ℕ × List ℤ × List ℤ). o .0) p q
 
 -- ---- campaign
 

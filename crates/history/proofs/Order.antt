@@ -80,7 +80,7 @@ registers =
 -- ---- a campaign
 
 abbrev started : ℕ → ℕ → ℕ → ℕ → ℕ → ℕ
-started N taps C store sums = startOutcome (fresh 2 3 1) N taps C (replicate store (pos 9)) (replicate sums (pos 9)) .0 .answer
+started N taps C store sums = startOutcome (fresh 2 3 1) N taps C (replicate store (pos 9)) (replicate sums (pos 9)) .0 .answer .number
 
 -- zeros; and a recording that may stand
 abbrev zeros : List ℤ

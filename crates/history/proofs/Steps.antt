@@ -15,6 +15,7 @@ use Rattle.sums.proofs.First.{outcome-cases, accepts}
 use Rattle.sums.proofs.Seek.{seek-first}
 use Rattle.sums.proofs.Somewhere.{none-of}
 use Rattle.register.specs.Register.{P}
+use Rattle.register.specs.Calls.{answerOf}
 use Rattle.samples.specs.Samples.{sampleOut, someOut, clearedWide, inside, rail}
 use Rattle.records.specs.Record.{standing, overloaded, dead, withdrawn, state, daysIn, slot, base, sample, together, fresh, marked, filed}
 use Rattle.campaign.specs.Calls.{startChecks, startOutcome, enterChecks, withdrawChecks, railPlace, still, entered, lowestFree, slotOfDay, keptOutcome, judgedOutcome, withdrawnOutcome, enterOutcome, withdrawOutcome, verdictNumber}
@@ -32,15 +33,15 @@ use Rattle.samples.proofs.Rails.{between}
 -- ---- a start
 
 pub data Starting (w : World) (N taps C : ℕ) (o : Started × List ℤ × List ℤ) : Type 0 where
-  refused : (o .0 .answer ≡ 0 → ⊥) → o .0 .campaign ≡ w .campaign → o .1 ≡ w .store → o .2 ≡ w .sums → Starting w N taps C o
-  began : o .0 .answer ≡ 0 → Begins N taps C (w .store) (w .sums) → o .0 .campaign ≡ fresh N taps C → o .1 ≡ clearedWide (C * P N) (w .store)
+  refused : (o .0 .answer .number ≡ 0 → ⊥) → o .0 .campaign ≡ w .campaign → o .1 ≡ w .store → o .2 ≡ w .sums → Starting w N taps C o
+  began : o .0 .answer .number ≡ 0 → Begins N taps C (w .store) (w .sums) → o .0 .campaign ≡ fresh N taps C → o .1 ≡ clearedWide (C * P N) (w .store)
       → o .2 ≡ clearedWide (P N) (w .sums) → Starting w N taps C o
 
 pub starting : (w : World) (N taps C : ℕ) → Starting w N taps C (startOutcome (w .campaign) N taps C (w .store) (w .sums))
 unfolding startOutcome
 starting w N taps C =
-    outcome-cases (startChecks N taps C (w .store) (w .sums)) tt (λ n. (record { answer = n; campaign = w .campaign }, w .store, w .sums))
-    (record { answer = 0; campaign = fresh N taps C }, clearedWide (C * P N) (w .store), clearedWide (P N) (w .sums)) (Starting w N taps C)
+    outcome-cases (startChecks N taps C (w .store) (w .sums)) tt (λ n. (record { answer = answerOf N taps n; campaign = w .campaign }, w .store, w .sums))
+    (record { answer = answerOf N taps 0; campaign = fresh N taps C }, clearedWide (C * P N) (w .store), clearedWide (P N) (w .sums)) (Starting w N taps C)
     (λ n h _. refused h refl refl refl)
     (λ p. began refl (begins N taps C (w .store) (w .sums) (accepts (startChecks N taps C (w .store) (w .sums)) p)) refl refl refl)
 

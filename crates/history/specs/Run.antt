@@ -45,7 +45,7 @@ after w (summary room tags) = w
 
 -- the number that a call answers: 0 is accepted
 abbrev pub answer : World → Call → ℕ
-answer w (start N taps C) = startOutcome (w .campaign) N taps C (w .store) (w .sums) .0 .answer
+answer w (start N taps C) = startOutcome (w .campaign) N taps C (w .store) (w .sums) .0 .answer .number
 answer w (enter d y) = verdictNumber (enterOutcome (w .campaign) (w .store) (w .sums) d y .0 .entry .verdict)
 answer w (withdraw d) = withdrawOutcome (w .campaign) (w .store) (w .sums) d .0 .answer
 answer w counts = countsNumber (countsOutcome (w .campaign) (w .store) (w .sums))

@@ -30,7 +30,7 @@ fn residue(v: i64) -> u64
 }
 
 // The digest with one number more.
-fn fold(d: u64, v: i64) -> u64
+pub fn fold(d: u64, v: i64) -> u64
     requires { ⌜ d < 1000003 ⌝ }
     ensures { λ r. ⌜ (r ≡ (d * 131 + residueOf v) % 1000003) × (r < 1000003) ⌝ }
 {

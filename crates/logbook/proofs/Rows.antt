@@ -33,7 +33,7 @@ began-none : (k : ℕ) (refused : ℕ → Applied × List ℤ × List ℤ) (acce
 began-none zero refused accepted f e = e
 began-none (suc k) refused accepted f e = f (suc k)
 
-start-few : (c : Campaign) (N taps C : ℕ) (store sums : List ℤ) → beganOutcome c N taps C store sums .0 .rows ≡ 0
+pub start-few : (c : Campaign) (N taps C : ℕ) (store sums : List ℤ) → beganOutcome c N taps C store sums .0 .rows ≡ 0
 unfolding beganOutcome
 start-few c N taps C store sums = began-none (first (logStartChecks N taps C)) _ _ (λ n. refl) refl
 

@@ -1,4 +1,5 @@
--- A start that passes 1, 2, 3, 4, 9 and 17 is accepted where the memory lent is the program's: it never meets 6. Assumes nothing.
+-- A start that passes 1, 2, 3, 4, 9 and 17 is accepted where the memory lent is the program's: it never meets 6. Its line tells the answer of its own
+-- checks, with the period that goes with it. Assumes nothing.
 use mathlib.Core.Path.{_≡_, refl, sym, ap}
 use mathlib.Core.Bool.{false, _||_}
 use mathlib.Core.List.{List}
@@ -13,6 +14,7 @@ use lib.Pow.{pow-mono}
 use Rattle.sums.specs.Refusals.{first, answered}
 use Rattle.sums.proofs.First.{passes, accepts, or-false, accepted-with}
 use Rattle.register.specs.Register.{P}
+use Rattle.register.specs.Calls.{answerOf}
 use Rattle.records.specs.declared.Campaign.{Campaign}
 use Rattle.campaign.specs.Calls.{startChecks, startOutcome}
 use Rattle.campaign.specs.declared.Started.{Started}
@@ -27,7 +29,7 @@ module _ (c : Campaign) (N taps C : ℕ) (store sums : List ℤ) (room : 4088 �
       let m : C * P N ≤ 8 * 511 = mul-le-mul (ltb-false 8 C (o .1)) p in
       simp (le-ltb (length store) (C * P N) (omega arith), le-ltb (length sums) (P N) (omega arith))
 
-  pub accepted : first (logStartChecks N taps C) ≡ 0 → startOutcome c N taps C store sums .0 .answer ≡ 0
+  pub accepted : first (logStartChecks N taps C) ≡ 0 → startOutcome c N taps C store sums .0 .answer ≡ answerOf N taps 0
   unfolding startOutcome
   accepted z =
       let p = passes (logStartChecks N taps C) tt z in
@@ -36,11 +38,12 @@ module _ (c : Campaign) (N taps C : ℕ) (store sums : List ℤ) (room : 4088 �
       ap (λ (o : Started × List ℤ × List ℤ). o .0 .answer) (accepted-with _ _ (startChecks N taps C store sums) 0 (sym e) refl)
 
   by-answer : (k : ℕ) → first (logStartChecks N taps C) ≡ k
-      → answered k (λ n. (startedBy (record { answer = n; campaign = c }), store, sums)) (over startedBy (startOutcome c N taps C store sums)) .0 .line
-      ≡ line.Started k
+      → answered k (λ n. (startedBy (record { answer = answerOf N taps n; campaign = c }), store, sums))
+      (over startedBy (startOutcome c N taps C store sums)) .0 .line
+      ≡ line.Started (answerOf N taps k)
   by-answer zero e = ap line.Started (accepted e)
   by-answer (suc k) e = refl
 
-  pub never-six : beganOutcome c N taps C store sums .0 .line ≡ line.Started (first (logStartChecks N taps C))
+  pub never-six : beganOutcome c N taps C store sums .0 .line ≡ line.Started (answerOf N taps (first (logStartChecks N taps C)))
   unfolding beganOutcome
   never-six = by-answer (first (logStartChecks N taps C)) refl

@@ -8,7 +8,7 @@ use lib.IntN.{ℤ}
 use lib.ListN.{length, take, set}
 use Rattle.sums.specs.Refusals.{answered, outcome}
 use Rattle.register.specs.Register.{P}
-use Rattle.register.specs.Calls.{tapsChecks}
+use Rattle.register.specs.Calls.{tapsChecks, answerOf}
 use Rattle.records.specs.Record.{fresh}
 use Rattle.records.specs.declared.Campaign.{Campaign}
 use Rattle.campaign.specs.Calls.{slotsOut, startOutcome, enterOutcome, withdrawOutcome}
@@ -51,11 +51,11 @@ logStartChecks N taps C = tapsChecks N taps ++ (9, slotsOut C) ∷ (17, tooLarge
 
 -- a refused start prints its line and stops
 abbrev pub startedBy : Started → Applied
-startedBy s = said (afterStart (s .answer)) (s .campaign) (line.Started (s .answer))
+startedBy s = said (afterStart (s .answer .number)) (s .campaign) (line.Started (s .answer))
 
 unfoldable pub beganOutcome : Campaign → ℕ → ℕ → ℕ → List ℤ → List ℤ → Applied × List ℤ × List ℤ
 beganOutcome c N taps C store sums =
-    outcome (logStartChecks N taps C) (λ n. (startedBy (record { answer = n; campaign = c }), store, sums))
+    outcome (logStartChecks N taps C) (λ n. (startedBy (record { answer = answerOf N taps n; campaign = c }), store, sums))
     (over startedBy (startOutcome c N taps C store sums))
 
 -- ---- a day is opened, has its samples, and is entered

@@ -21,7 +21,8 @@ use records::MOST_SLOTS;
 use records::filing::blank;
 use records::tables::outside;
 use register::shift::full_period;
-use register::taps::check_taps;
+use register::taps::taps_refusal;
+use register::telling::tell;
 use report::Line;
 use trend::Counts;
 use trend::Tally;
@@ -53,7 +54,7 @@ fn too_large(order: u32, capacity: u32) -> bool
 fn start_refusal(order: u32, taps: u32, capacity: u32) -> u32
     ensures { λ n. ⌜ n ≡ first (logStartChecks order taps capacity) ⌝ }
 {
-    let refusal = check_taps(order, taps);
+    let refusal = taps_refusal(order, taps);
     if refusal != 0 {
         return refusal;
     }
@@ -92,7 +93,7 @@ fn started_by(s: Started) -> Applied
 {
     let answer = s.answer;
     let campaign = s.campaign;
-    say(after_start(answer), campaign, Line::Started(answer))
+    say(after_start(answer.number), campaign, Line::Started(answer))
 }
 
 // A start, refusing 1, 2, 3, 4, 9, 17.
@@ -109,7 +110,7 @@ fn begin(
     let refusal = start_refusal(order, taps, capacity);
     if refusal != 0 {
         return started_by(Started {
-            answer: refusal,
+            answer: tell(order, taps, refusal),
             campaign: c,
         });
     }

@@ -1,4 +1,5 @@
--- Document 01, the example of "The log program": its bytes, and the lines that the program prints for them, by computation. Assumes nothing.
+-- Document 01, the example of "The log program": its bytes, and the lines that the program prints for them, by computation; and logs whose start is
+-- refused with 4, whose one line tells the period. Assumes nothing.
 use mathlib.Core.Path.{_≡_, refl}
 use mathlib.Core.List.{List, [], _∷_, _++_}
 use Prim.Native.Nat.{ℕ}
@@ -45,3 +46,15 @@ exampleLines =
 pub example-prints : logOutput example ≡ exampleLines
 unfolding logOutput output turn decoded applied beganOutcome startOutcome enterOutcome withdrawOutcome countsOutcome responseOutcome rowsBytes digits together tapsAnswer period seek some every many total sum sign table put putAt nearest formula.response formula.correlation wave bit window step dot ones
 example-prints = refl
+
+-- order 4, the taps, 1 slot; ask, which is not reached
+abbrev pub shortLog : ℕ → List ℕ
+shortLog taps = (1 ∷ 4 ∷ taps ∷ 0 ∷ 1 ∷ []) ++ (6 ∷ [])
+
+pub record Short : Type 0 where
+  pub taps-15 : logOutput (shortLog 15) ≡ ascii "start 4 5\n"
+  pub taps-5 : logOutput (shortLog 5) ≡ ascii "start 4 6\n"
+
+pub short-prints : Short
+unfolding logOutput output turn decoded applied beganOutcome rowsBytes digits period seek window step dot ones
+short-prints = record { taps-15 = refl; taps-5 = refl }

@@ -15,6 +15,8 @@ use Rattle.sums.specs.Refusals.{first, answered}
 use Rattle.sums.proofs.First.{passes, or-false, outcome-cases}
 use Rattle.sums.proofs.Tables.{length-put, length-table}
 use Rattle.register.specs.Register.{P}
+use Rattle.register.specs.Calls.{answerOf}
+use Rattle.register.specs.declared.Answer.{Answer}
 use Rattle.records.specs.Record.{fresh}
 use Rattle.records.specs.declared.Campaign.{Campaign}
 use Rattle.campaign.specs.Calls.{startOutcome}
@@ -76,7 +78,7 @@ first-room =
 abbrev began : ℕ → ℕ → ℕ → ℕ → Applied × Memory
 began N taps C k =
     filing firstMemory
-    (answered k (λ n. (startedBy (record { answer = n; campaign = fresh 0 0 0 }), zeros 4088, zeros 511))
+    (answered k (λ n. (startedBy (record { answer = answerOf N taps n; campaign = fresh 0 0 0 }), zeros 4088, zeros 511))
     (over startedBy (startOutcome (fresh 0 0 0) N taps C (zeros 4088) (zeros 511))))
 
 -- a start of the campaign goes on or stops by its answer
@@ -89,9 +91,9 @@ began-follows : (N taps C k : ℕ) → first (logStartChecks N taps C) ≡ k
 unfolding run
 began-follows N taps C (suc k) e = stopped
 began-follows N taps C zero e =
-    let a = starting.accepted (fresh 0 0 0) N taps C (zeros 4088) (zeros 511) (omega (arith, length-replicate {A = ℤ} 4088 (pos 0)))
-    (omega (arith, length-replicate {A = ℤ} 511 (pos 0))) e in
-    by-answer (startOutcome (fresh 0 0 0) N taps C (zeros 4088) (zeros 511) .0 .answer) (record {
+    let a = ap (λ (x : Answer). x .number) (starting.accepted (fresh 0 0 0) N taps C (zeros 4088) (zeros 511)
+    (omega (arith, length-replicate {A = ℤ} 4088 (pos 0))) (omega (arith, length-replicate {A = ℤ} 511 (pos 0))) e) in
+    by-answer (startOutcome (fresh 0 0 0) N taps C (zeros 4088) (zeros 511) .0 .answer .number) (record {
       going = started firstWorld N taps C [] a;
       few = subst (λ (x : Campaign). x .order ≤ 9) (sym (started-campaign firstWorld N taps C [] a)) (few-slots N taps C e);
       world = refl;

@@ -1,8 +1,8 @@
--- What every log is promised: no line of it says 15 or 6, and what a response prints is what the history of its calls says, the third
--- demand. For every input, and after any number of turns. Assumes nothing.
+-- What every log is promised: no line of it says 15 or 6, a start prints its answer and after 4 how short the period is, and what a response prints is
+-- what the history of its calls says, the third demand. For every input, and after any number of turns. Assumes nothing.
 use mathlib.Core.Path.{_≡_, refl, sym, ap, subst, _∙_}
 use mathlib.Core.Bool.{Bool, true, false, cond, not, _||_}
-use mathlib.Core.List.{List, [], _∷_, _++_}
+use mathlib.Core.List.{List, [], _∷_, _++_, append-nil}
 use Prim.Native.Nat.{ℕ, suc, _+_, _*_, _≤_, _<_}
 use native.Mathlib.Omega.{arith}
 use borrow.Author.Tests.{le-ltb, le-leb}
@@ -10,10 +10,14 @@ use lib.Dec.{eqb, ltb}
 use lib.IntN.{ℤ, pos, _*ℤ_}
 use lib.ListN.{length, take, length-replicate}
 use lib.Pow.{pow-mono}
-use Rattle.sums.proofs.First.{outcome-cases}
+use Rattle.sums.proofs.First.{not-first, outcome-cases}
 use Rattle.sums.specs.Lists.{at}
+use Rattle.sums.specs.Text.{ascii}
 use Rattle.sums.specs.Refusals.{first, answered, outcome}
-use Rattle.register.specs.Register.{P, wave}
+use Rattle.register.specs.Register.{P, wave, period}
+use Rattle.register.specs.Calls.{told, answerOf}
+use Rattle.register.proofs.HowShort.{how-short}
+use Rattle.register.proofs.Judged.{FirstReturn}
 use Rattle.response.specs.Response.{prediction}
 use Rattle.records.specs.Record.{unseen, standing, overloaded, dead, withdrawn, daysIn, together, marked}
 use Rattle.records.specs.declared.Campaign.{Campaign}
@@ -26,7 +30,7 @@ use Rattle.campaign.specs.declared.Verdict.the-variants as verdict
 use Rattle.trend.specs.Calls.{responseChecks, countsOutcome, responseOutcome}
 use Rattle.trend.specs.declared.Tally.{Tally}
 use Rattle.history.specs.Run.{World, Call, enter, withdraw, response, answer, begun, made, heard}
-use Rattle.history.proofs.Answers.{not-first, RoomFor, responded}
+use Rattle.history.proofs.Answers.{RoomFor, responded}
 use Rattle.history.proofs.EveryRun as every
 use Rattle.log.specs.declared.Phase.{Phase}
 use Rattle.log.specs.declared.Phase.the-variants as phase
@@ -34,12 +38,13 @@ use Rattle.log.specs.declared.Item.{Item}
 use Rattle.log.specs.declared.Item.the-variants as item
 use Rattle.log.specs.declared.Found.the-variants as found
 use Rattle.log.proofs.Finding.{Fits, starts, opens, withdraws, asks, samples, enters, whole-fits}
-use Rattle.report.specs.Lines.{lineBytes, responseLine}
+use Rattle.report.specs.Lines.{digits, spaced, lineEnd, startLine, lineBytes, responseLine}
 use Rattle.report.specs.declared.Line.the-variants as line
 use Rattle.logbook.specs.Book.{Memory, logStartChecks, dayLength, tallied, applied}
 use Rattle.logbook.specs.declared.Applied.{Applied}
+use Rattle.logbook.proofs.Rows.{start-few}
 use Rattle.logbook.proofs.Starts.{never-six}
-use Rattle.logprogram.specs.Program.{Place, firstMemory, rowsBytes, turnOn, standsAt, turn}
+use Rattle.logprogram.specs.Program.{Place, firstMemory, rowsBytes, printed, turnOn, standsAt, turn}
 use Rattle.logprogram.proofs.Turns.{found-at, turns}
 use Rattle.logruns.specs.Calls.{worldOf, firstWorld, lineNumber, reached}
 use Rattle.logruns.proofs.Following.{Running, Follows, unbegun, between, inside, order-is, order-few, follows}
@@ -133,18 +138,18 @@ module _ (D : ℕ) (c : Campaign) (m : Memory) (calls : List Call) where
   abbrev number : Phase → Item → ℕ
   number p i = lineNumber (applied (record { phase = p; campaign = c }) i m .0 .line)
 
-  start-number : (N taps C : ℕ) → m ≡ firstMemory → number phase.Unbegun (item.Start N taps C) ≡ first (logStartChecks N taps C)
+  start-line : (p : Phase) (N taps C : ℕ) → m ≡ firstMemory
+      → applied (record { phase = p; campaign = c }) (item.Start N taps C) m .0 .line ≡ line.Started (answerOf N taps (first (logStartChecks N taps C)))
   unfolding applied
-  start-number N taps C f =
-      ap lineNumber
-      (never-six c N taps C (m .store) (m .sums) (omega (arith, ap (λ (x : Memory). length (x .store)) f, length-replicate {A = ℤ} 4088 (pos 0)))
-      (omega (arith, ap (λ (x : Memory). length (x .sums)) f, length-replicate {A = ℤ} 511 (pos 0))))
+  start-line p N taps C f =
+      never-six c N taps C (m .store) (m .sums) (omega (arith, ap (λ (x : Memory). length (x .store)) f, length-replicate {A = ℤ} 4088 (pos 0)))
+      (omega (arith, ap (λ (x : Memory). length (x .sums)) f, length-replicate {A = ℤ} 511 (pos 0)))
 
   item-number : (p : Phase) (i : Item) → Fits D p i → Follows calls c m p → (number p i ≡ 15 → ⊥) × (number p i ≡ 6 → ⊥)
   unfolding applied
   item-number p i (starts {N} {taps} {C}) (unbegun e f g) = (
-    λ h. not-first 15 (logStartChecks N taps C) tt (sym (start-number N taps C f) ∙ h),
-    λ h. not-first 6 (logStartChecks N taps C) tt (sym (start-number N taps C f) ∙ h),
+    λ h. not-first 15 (logStartChecks N taps C) tt (sym (ap lineNumber (start-line p N taps C f)) ∙ h),
+    λ h. not-first 6 (logStartChecks N taps C) tt (sym (ap lineNumber (start-line p N taps C f)) ∙ h),
   )
   item-number p i opens (between r) = (λ h. omega arith, λ h. omega arith)
   item-number p i (withdraws {d}) (between r) = (no-fifteen r (withdraw d), withdrawal-no-six r d)
@@ -156,9 +161,16 @@ module _ (n : ℕ) (input : List ℕ) where
   abbrev pub here : Place
   here = reached n input .place
 
+  -- what the next turn prints
+  abbrev pub said : List ℕ
+  said = turn here (reached n input .left) true .text
+
   module _ (i : Item) (k : ℕ) (stands : standsAt here (reached n input .left) true ≡ found.Whole i k) where
     fits : Fits (dayLength (here .book .campaign .order)) (here .book .phase) i
     fits = whole-fits (rw stands at (found-at here (reached n input .left) true))
+
+    text-is : said ≡ printed (applied (here .book) i (here .memory))
+    text-is = ap (λ t. t .text) (turns here (reached n input .left) true ∙ ap (turnOn here) stands)
 
     numbers : (lineNumber (applied (here .book) i (here .memory) .0 .line) ≡ 15 → ⊥) × (lineNumber (applied (here .book) i (here .memory) .0 .line) ≡ 6 → ⊥)
     numbers =
@@ -170,6 +182,44 @@ module _ (n : ℕ) (input : List ℕ) where
 
     pub never-says-6 : lineNumber (applied (here .book) i (here .memory) .0 .line) ≡ 6 → ⊥
     never-says-6 = numbers .1
+
+-- ---- what a start prints, where one stands after n turns
+
+module _ (n : ℕ) (input : List ℕ) (N taps C k : ℕ) (stands : standsAt (here n input) (reached n input .left) true ≡ found.Whole (item.Start N taps C) k) where
+  -- the first of its checks that refuses it, and 0 where none does
+  abbrev pub startNumber : ℕ
+  startNumber = first (logStartChecks N taps C)
+
+  abbrev D : ℕ
+  D = dayLength (here n input .book .campaign .order)
+
+  first-memory : (p : Phase) → Fits D p (item.Start N taps C)
+      → Follows (reached n input .calls) (here n input .book .campaign) (here n input .memory) p → here n input .memory ≡ firstMemory
+  first-memory p starts (unbegun e f g) = f
+
+  no-rows : applied (here n input .book) (item.Start N taps C) (here n input .memory) .0 .rows ≡ 0
+  unfolding applied
+  no-rows = start-few (here n input .book .campaign) N taps C (here n input .memory .store) (here n input .memory .sums)
+
+  pub prints-start : said n input ≡ startLine (answerOf N taps startNumber)
+  unfolding rowsBytes
+  prints-start =
+      let m = here n input .memory in
+      let o = applied (here n input .book) (item.Start N taps C) m in
+      let f = first-memory (here n input .book .phase) (fits n input (item.Start N taps C) k stands) (follows n input) in
+      text-is n input (item.Start N taps C) k stands
+      ∙ ap (λ rows. lineBytes (o .0 .line) ++ rowsBytes rows (o .1 .r) (o .1 .mean)) no-rows
+      ∙ append-nil (lineBytes (o .0 .line))
+      ∙ ap lineBytes (start-line D (here n input .book .campaign) m (reached n input .calls) (here n input .book .phase) N taps C f)
+
+  -- refused with 4 it prints after how many steps the register first returns to all ones
+  pub prints-short : startNumber ≡ 4
+      → (said n input ≡ ascii "start 4" ++ spaced (period N taps) ++ lineEnd) × FirstReturn N taps (period N taps) × (period N taps < P N)
+  unfolding digits
+  prints-short e =
+      let s = subst (λ a. FirstReturn N taps (told N taps a 0) × (told N taps a 0 < P N)) e
+      (how-short N taps (logStartChecks N taps C) refl tt 0 .short e) in
+      (prints-start ∙ ap (λ a. startLine (answerOf N taps a)) e, s .0, s .1)
 
 -- ---- the third demand, of what an ask prints
 
@@ -236,18 +286,12 @@ module _ (n : ℕ) (input : List ℕ) (k : ℕ) (stands : standsAt (here n input
   abbrev pub askedHere : Applied × Memory
   askedHere = applied (here n input .book) item.Ask (here n input .memory)
 
-  abbrev pub said : List ℕ
-  said = turn (here n input) (reached n input .left) true .text
-
-  text-is : said ≡ lineBytes (askedHere .0 .line) ++ rowsBytes (askedHere .0 .rows) (askedHere .1 .r) (askedHere .1 .mean)
-  text-is = ap (λ t. t .text) (turns (here n input) (reached n input .left) true ∙ ap (turnOn (here n input)) stands)
-
   -- it prints the counts that the history says
-  pub prints-counts : said
+  pub prints-counts : said n input
       ≡ responseLine (answer (worldOf (here n input)) (response (here n input .memory .r) (here n input .memory .mean) (here n input .memory .room)
       (here n input .memory .tags))) (historyTally run-here)
       ++ rowsBytes (askedHere .0 .rows) (askedHere .1 .r) (askedHere .1 .mean)
-  prints-counts = text-is ∙ ap (λ l. lineBytes l ++ rowsBytes (askedHere .0 .rows) (askedHere .1 .r) (askedHere .1 .mean))
+  prints-counts = text-is n input item.Ask k stands ∙ ap (λ l. lineBytes l ++ rowsBytes (askedHere .0 .rows) (askedHere .1 .r) (askedHere .1 .mean))
       (counts-said run-here (here n input .book .phase))
 
   -- and where some day stands and the recordings then standing are convolutions of whole-number responses, (P+1) times the sum of these
@@ -255,7 +299,7 @@ module _ (n : ℕ) (input : List ℕ) (k : ℕ) (stands : standsAt (here n input
       (convolved : (d : ℕ) → Day d → made firstWorld (reached n input .calls) d ≡ standing → (j : ℕ) → j < P (N run-here)
       → at (heard firstWorld (reached n input .calls) d) j ≡ prediction (P (N run-here)) (wave (N run-here) (taps run-here)) (h d) j) where
     pub prints-recovered : (d : ℕ) → Day d → made firstWorld (reached n input .calls) d ≡ standing
-        → (said ≡ responseLine 0 (historyTally run-here) ++ rowsBytes (P (N run-here)) (askedHere .1 .r) (askedHere .1 .mean))
+        → (said n input ≡ responseLine 0 (historyTally run-here) ++ rowsBytes (P (N run-here)) (askedHere .1 .r) (askedHere .1 .mean))
         × ((j : ℕ) → j < P (N run-here) → at (askedHere .1 .r) j ≡ pos (suc (P (N run-here))) *ℤ total run-here h convolved j)
     unfolding applied
     prints-recovered d y e =

@@ -14,6 +14,7 @@ use lib.Seq.{take-suc-set}
 use Rattle.sums.proofs.First.{outcome-cases}
 use Rattle.sums.specs.Refusals.{answered}
 use Rattle.register.specs.Register.{P}
+use Rattle.register.specs.Calls.{answerOf}
 use Rattle.records.specs.declared.Campaign.{Campaign}
 use Rattle.campaign.specs.Calls.{startOutcome}
 use Rattle.log.specs.declared.Phase.{Phase}
@@ -57,9 +58,10 @@ module _ (y : List ℤ) (c : Campaign) (m : Memory) where
   start-closed : (N taps C : ℕ) → Sampled y (m .recording) (beganOutcome c N taps C (m .store) (m .sums) .0 .book .phase)
   unfolding beganOutcome
   start-closed N taps C =
-      outcome-cases {A = Applied × List ℤ × List ℤ} (logStartChecks N taps C) tt (λ n. (startedBy (record { answer = n; campaign = c }), m .store, m .sums))
+      outcome-cases {A = Applied × List ℤ × List ℤ} (logStartChecks N taps C) tt
+      (λ n. (startedBy (record { answer = answerOf N taps n; campaign = c }), m .store, m .sums))
       (over startedBy (startOutcome c N taps C (m .store) (m .sums))) (λ o. Sampled y (m .recording) (o .0 .book .phase))
-      (λ n _ _. closed n) (λ _. closed (startOutcome c N taps C (m .store) (m .sums) .0 .answer))
+      (λ n _ _. closed n) (λ _. closed (startOutcome c N taps C (m .store) (m .sums) .0 .answer .number))
 
   sample-put : (d n : ℕ) (v : ℤ) → n < length (m .recording) → take n (m .recording) ≡ y
       → let o = putSample d n v (m .recording) in (length (o .1) ≡ length (m .recording)) × Sampled (y ++ v ∷ []) (o .1) (o .0)

@@ -67,10 +67,10 @@ callsAt p y found.Short = []
 callsAt p y found.Bad = []
 callsAt p y found.End = []
 
--- the answer that a line says
+-- the number of the answer that a line says
 abbrev pub lineNumber : Line → ℕ
 lineNumber line.Silent = 0
-lineNumber (line.Started answer) = answer
+lineNumber (line.Started a) = a .number
 lineNumber (line.Entered e) = verdictNumber (e .verdict)
 lineNumber (line.Withdrawn d answer) = answer
 lineNumber (line.Answered answer t) = answer

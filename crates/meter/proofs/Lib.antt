@@ -1,4 +1,5 @@
 -- The laws of the C door.
 mod Copying
 pub mod Opening
+pub mod Telling
 pub mod Starting

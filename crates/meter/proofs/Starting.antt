@@ -14,7 +14,7 @@ use Rattle.sums.specs.Lists.{put}
 use Rattle.sums.specs.Refusals.{first, answered}
 use Rattle.sums.proofs.First.{refused-first, passes, or-false}
 use Rattle.register.specs.Register.{P}
-use Rattle.register.specs.Calls.{tapsChecks, tapsAnswer}
+use Rattle.register.specs.Calls.{tapsChecks, answerOf, tapsAnswer}
 use Rattle.register.proofs.Judged.{accepted-exactly}
 use Rattle.samples.specs.Samples.{clearedWide}
 use Rattle.records.specs.Record.{fresh}
@@ -25,7 +25,7 @@ use Rattle.meter.proofs.Opening.{long, put-backs}
 
 -- what a start comes to, behind the door
 abbrev pub startedOut : List ℕ → List ℕ → Started × List ℤ × List ℤ → ℕ × List ℕ × List ℕ × List ℤ × List ℤ
-startedOut days slots (s, store, sums) = (s .answer, put (s .campaign .days) days, put (s .campaign .slots) slots, store, sums)
+startedOut days slots (s, store, sums) = (s .answer .number, put (s .campaign .days) days, put (s .campaign .slots) slots, store, sums)
 
 no-memory : (N taps C : ℕ) → tapsAnswer N taps ≡ 0 → ltb 0 (C * P N) || ltb 0 (P N) ≡ true
 no-memory N taps C z =
@@ -68,7 +68,7 @@ module _ (N taps C : ℕ) (days slots : List ℕ) (store sums : List ℤ) where
   start-opened h = ap (λ n. answered n back made) (long-checks h) ∙ by-answer (first (startChecks N taps C store sums))
     where
       by-answer : (n : ℕ) → answered n back made
-          ≡ startedOut days slots (answered n (λ n. (record { answer = n; campaign = recordOf N taps C days slots }, store, sums)) (record { answer = 0; campaign = fresh N taps C }, clearedWide (C * P N) store, clearedWide (P N) sums))
+          ≡ startedOut days slots (answered n (λ n. (record { answer = answerOf N taps n; campaign = recordOf N taps C days slots }, store, sums)) (record { answer = answerOf N taps 0; campaign = fresh N taps C }, clearedWide (C * P N) store, clearedWide (P N) sums))
       by-answer zero = refl
       by-answer (suc n) = sym (put-backs days slots (long days slots h) (λ d t. (suc n, d, t, store, sums)))
 

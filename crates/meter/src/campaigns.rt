@@ -1,4 +1,5 @@
 // The doors of a campaign's calls: the record crosses as three numbers and two lent tables.
+use crate::periods::write_answer;
 use crate::tables::read_record;
 use crate::tables::tables_short;
 use crate::tables::write_record;
@@ -9,10 +10,12 @@ use campaign::entering::enter;
 use campaign::starting::start;
 use campaign::starting::start_refusal;
 use campaign::withdrawing::withdraw;
+use register::telling::tell;
 use trend::answering::response;
 use trend::counting::counts;
 use trend::summarising::summary;
 ghost use mathlib.Core.Path.{_≡_};
+ghost use Rattle.register.specs.Calls.{told};
 ghost use Rattle.meter.specs.Doors.{startDoor, enterDoor, withdrawDoor, countsDoor, responseDoor, summaryDoor};
 
 // A short table is room too short, so the start is refused as one that is lent no memory.
@@ -25,18 +28,22 @@ pub extern "C" fn meter_start(
     slots: &mut [u16],
     store: &mut [i32],
     sums: &mut [i64],
+    period: &mut u32,
 ) -> u32
-    ensures { λ r. ⌜ (r, now (days .exit), now (slots .exit), now (store .exit), now (sums .exit))
-        ≡ startDoor order taps capacity (now (days .entry)) (now (slots .entry)) (now (store .entry)) (now (sums .entry)) ⌝ }
+    ensures { λ r. ⌜ ((r, now (days .exit), now (slots .exit), now (store .exit), now (sums .exit))
+        ≡ startDoor order taps capacity (now (days .entry)) (now (slots .entry)) (now (store .entry)) (now (sums .entry)))
+        × (now (period .exit) ≡ told order taps r (now (period .entry))) ⌝ }
 {
     if tables_short(days.len(), slots.len()) {
-        return start_refusal(order, taps, capacity, 0, 0);
+        let refusal = start_refusal(order, taps, capacity, 0, 0);
+        return write_answer(tell(order, taps, refusal), period);
     }
     let c = read_record(order, taps, capacity, days, slots);
     let started = start(c, order, taps, capacity, store, sums);
     let made = started.campaign;
     write_record(made, days, slots);
-    started.answer
+    let answer = started.answer;
+    write_answer(answer, period)
 }
 
 #[no_mangle]

@@ -1,5 +1,6 @@
 // The C door: each public call as a function of C, on numbers and slices.
 pub mod campaigns;
+mod periods;
 pub mod recordings;
 pub mod registers;
 mod tables;

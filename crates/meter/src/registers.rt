@@ -1,4 +1,5 @@
 // The doors of the register, the default taps and the player. A player crosses as its four numbers.
+use crate::periods::write_answer;
 use defaults::DefaultTaps;
 use defaults::taps::default_taps;
 use player::NewPlayer;
@@ -10,14 +11,14 @@ use player::clock::step_player;
 use register::sequence::sequence;
 use register::taps::check_taps;
 ghost use mathlib.Core.Path.{_≡_};
-ghost use Rattle.register.specs.Calls.{tapsAnswer, sequenceOutcome};
+ghost use Rattle.register.specs.Calls.{told, tapsAnswer, sequenceOutcome};
 ghost use Rattle.meter.specs.Players.{playerOf, defaultDoor, newDoor, stepDoor, playDoor};
 
 #[no_mangle]
-pub extern "C" fn meter_taps(order: u32, taps: u32) -> u32
-    ensures { λ r. ⌜ r ≡ tapsAnswer order taps ⌝ }
+pub extern "C" fn meter_taps(order: u32, taps: u32, period: &mut u32) -> u32
+    ensures { λ r. ⌜ (r ≡ tapsAnswer order taps) × (now (period .exit) ≡ told order taps r (now (period .entry))) ⌝ }
 {
-    check_taps(order, taps)
+    write_answer(check_taps(order, taps), period)
 }
 
 #[no_mangle]
@@ -34,10 +35,10 @@ pub extern "C" fn meter_default_taps(order: u32, taps: &mut u32) -> u32
 }
 
 #[no_mangle]
-pub extern "C" fn meter_sequence(order: u32, taps: u32, out: &mut [u8]) -> u32
-    ensures { λ r. ⌜ (r, now (out .exit)) ≡ sequenceOutcome order taps (now (out .entry)) ⌝ }
+pub extern "C" fn meter_sequence(order: u32, taps: u32, out: &mut [u8], period: &mut u32) -> u32
+    ensures { λ r. ⌜ ((r, now (out .exit)) ≡ sequenceOutcome order taps (now (out .entry))) × (now (period .exit) ≡ told order taps r (now (period .entry))) ⌝ }
 {
-    sequence(order, taps, out)
+    write_answer(sequence(order, taps, out), period)
 }
 
 // The player's numbers o, t, window and count are those of a new player of this order and these taps.

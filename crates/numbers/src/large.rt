@@ -17,7 +17,12 @@ ghost use lib.ListN.{length};
 
 fn predicted_line(order: u32, taps: u32, h: &[i32], y: &mut [i32]) {
     let answer = prediction::predict(order, taps, h, y);
-    three(b"predict", order as u64, answer as u64, digest_samples(y));
+    three(
+        b"predict",
+        order as u64,
+        answer.number as u64,
+        digest_samples(y),
+    );
 }
 
 fn response_line(
@@ -29,7 +34,12 @@ fn response_line(
     tags: &mut [u16],
 ) {
     let answer = response::one_recording(order, taps, y, out, room, tags);
-    three(b"response", order as u64, answer as u64, digest_wide(out));
+    three(
+        b"response",
+        order as u64,
+        answer.number as u64,
+        digest_wide(out),
+    );
 }
 
 // P + 1 times the response.

@@ -6,6 +6,7 @@ mod signals;
 
 fn main() {
     checks::taps_lines();
+    checks::all_taps_lines();
     checks::default_lines();
     recordings::recording_lines();
     recordings::sample_lines();

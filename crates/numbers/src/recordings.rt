@@ -3,10 +3,11 @@ use lines::print::line_end;
 use lines::print::number;
 use lines::print::signed;
 use lines::print::word;
+use register::Answer;
 use rounding::means::write_means;
 
 // What one recording answers at order 3, taps 3, with room enough.
-fn answer(y: &[i32]) -> u32 {
+fn answer(y: &[i32]) -> Answer {
     let mut out = [0i64; 7];
     let mut room = [0i64; 8];
     let mut tags = [0u16; 14];
@@ -18,7 +19,7 @@ fn recording_line(y: &[i32]) {
     number(3);
     number(3);
     number(y.len() as u64);
-    number(answer(y) as u64);
+    number(answer(y).number as u64);
     line_end();
 }
 
@@ -32,7 +33,7 @@ fn sample_line(v: i32) {
     let y = [v, 0, 0, 0, 0, 0, 0];
     word(b"sample");
     signed(v as i64);
-    number(answer(&y) as u64);
+    number(answer(&y).number as u64);
     line_end();
 }
 
@@ -68,6 +69,6 @@ pub fn refused_line() {
     let h = [8388607, 8388607, 0, 0, 0, 0, 0];
     let mut y = [0i32; 7];
     word(b"predict-refused");
-    number(prediction::predict(3, 3, &h, &mut y) as u64);
+    number(prediction::predict(3, 3, &h, &mut y).number as u64);
     line_end();
 }

@@ -1,5 +1,5 @@
--- Document 01, "Numbers to hold it to": P1 to P12, one table under one claim, computed from the outcome functions. Order 3, taps 3 unless
--- said. Assumes nothing.
+-- Document 01, "Numbers to hold it to": P1 to P12, one table under one claim, computed from the outcome functions; at P8 to P12 the taps check's
+-- answer with its period, which 02 wants told. Order 3, taps 3 unless said. Assumes nothing.
 use mathlib.Core.Path.{_≡_, refl}
 use mathlib.Core.List.{List, [], _∷_}
 use Prim.Native.Nat.{ℕ}
@@ -9,7 +9,8 @@ use lib.ListN.{replicate}
 use Rattle.sums.specs.Sum.{sum, sign}
 use Rattle.sums.specs.Lists.{seek, some, table, put}
 use Rattle.register.specs.Register.{dot, step, window, bit, wave, period}
-use Rattle.register.specs.Calls.{tapsAnswer, sequenceOutcome}
+use Rattle.register.specs.Calls.{answerOf, tapsAnswer, sequenceOutcome}
+use Rattle.register.specs.declared.Answer.{Answer}
 use Rattle.response.specs.Response.{correlation, response, prediction}
 use Rattle.response.specs.Calls.{recordingOutcome}
 use Rattle.prediction.specs.Calls.{predictionOutcome}
@@ -24,6 +25,13 @@ wide z = replicate 8 z
 
 abbrev tags : ℕ → List ℕ
 tags t = replicate 14 t
+
+-- the taps check's answer, and the one with this number and this period
+abbrev checked : ℕ → ℕ → Answer
+checked N taps = answerOf N taps (tapsAnswer N taps)
+
+abbrev says : ℕ → ℕ → Answer
+says n p = record { number = n; period = p }
 
 -- what one recording comes to, and that it comes to this response
 abbrev turned : List ℤ → ℕ × List ℤ × List ℤ × List ℕ
@@ -43,11 +51,11 @@ pub record Paper : Type 0 where
   pub p5 : turned (seven (pos 0)) ≡ gives (seven (pos 0))
   pub p6 : turned (seven (negsuc 8388607)) ≡ gives (seven (pos 67108864))
   pub p7 : sequenceOutcome 2 3 (9 ∷ 9 ∷ 9 ∷ []) ≡ (0, 1 ∷ 1 ∷ 0 ∷ [])
-  pub p8 : tapsAnswer 2 1 ≡ 4
-  pub p9 : tapsAnswer 2 2 ≡ 3
-  pub p10 : tapsAnswer 2 4 ≡ 2
-  pub p11 : (tapsAnswer 4 15 ≡ 4) × (period 4 15 ≡ 5)
-  pub p12 : (tapsAnswer 4 5 ≡ 4) × (period 4 5 ≡ 6)
+  pub p8 : checked 2 1 ≡ says 4 1
+  pub p9 : checked 2 2 ≡ says 3 0
+  pub p10 : checked 2 4 ≡ says 2 0
+  pub p11 : checked 4 15 ≡ says 4 5
+  pub p12 : checked 4 5 ≡ says 4 6
 
 pub paper : Paper
 unfolding predictionOutcome recordingOutcome response correlation prediction sequenceOutcome tapsAnswer period seek some table put sum sign wave bit window step dot ones
@@ -63,6 +71,6 @@ paper =
       p8 = refl;
       p9 = refl;
       p10 = refl;
-      p11 = (refl, refl);
-      p12 = (refl, refl);
+      p11 = refl;
+      p12 = refl;
     }

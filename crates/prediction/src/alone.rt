@@ -1,6 +1,8 @@
 // A recording predicted from a response, by the same route the other way round, in a room of its own.
 use crate::windows::some_sample_out;
 use crate::windows::write_samples;
+use register::Answer;
+use register::telling::tell;
 use response::given::given_refusal;
 use response::respond::transform_room;
 use response::spread::spread_back;
@@ -11,6 +13,7 @@ ghost use Prim.Native.Nat.{_+_, _≤_, _<_};
 ghost use lib.ListN.{length};
 ghost use Rattle.sums.specs.Lists.{at};
 ghost use Rattle.register.specs.Register.{P, Accepted};
+ghost use Rattle.register.specs.Calls.{told};
 ghost use Rattle.samples.specs.Samples.{someOut, clearedWide};
 ghost use Rattle.prediction.specs.Calls.{eighthOutcome, predictionOutcome};
 
@@ -79,8 +82,8 @@ fn predict_alone(order: u32, taps: u32, h: &[i32], out: &mut [i32], most: u32) -
     predict_long(order, taps, h, out)
 }
 
-// y(j) at every place: 0, or the refusal.
-pub fn predict(order: u32, taps: u32, h: &[i32], out: &mut [i32]) -> u32
+// The checks, and the prediction where none refuses: 0, or the refusal.
+fn check_and_predict(order: u32, taps: u32, h: &[i32], out: &mut [i32]) -> u32
     ensures { λ r. ⌜ (r, now (out .exit)) ≡ predictionOutcome order taps (now (h .entry)) (now (out .entry)) ⌝ }
 {
     let refusal = given_refusal(order, taps, h);
@@ -94,4 +97,11 @@ pub fn predict(order: u32, taps: u32, h: &[i32], out: &mut [i32]) -> u32
         return 7;
     }
     predict_alone(order, taps, h, out, SHORT_ORDER)
+}
+
+// y(j) at every place, refusing 1 to 8.
+pub fn predict(order: u32, taps: u32, h: &[i32], out: &mut [i32]) -> Answer
+    ensures { λ r. ⌜ ((r .number, now (out .exit)) ≡ predictionOutcome order taps (now (h .entry)) (now (out .entry))) × (r .period ≡ told order taps (r .number) 0) ⌝ }
+{
+    tell(order, taps, check_and_predict(order, taps, h, out))
 }

@@ -1,6 +1,8 @@
 // A recording predicted from a response, in a room that is lent.
 use crate::alone::predict_in;
 use crate::direct::known_loud;
+use register::Answer;
+use register::telling::tell;
 use response::given::given_refusal;
 use samples::clearing::clear_wide;
 use samples::lengths::lent_short;
@@ -11,6 +13,7 @@ ghost use Prim.Native.Nat.{_≤_, _<_};
 ghost use lib.ListN.{length};
 ghost use Rattle.sums.specs.Lists.{at};
 ghost use Rattle.register.specs.Register.{P, Accepted};
+ghost use Rattle.register.specs.Calls.{told};
 ghost use Rattle.samples.specs.Samples.{someOut};
 ghost use Rattle.prediction.specs.Calls.{eighthInRoom, roomedOutcome};
 
@@ -29,8 +32,14 @@ fn predict_lent(order: u32, taps: u32, h: &[i32], out: &mut [i32], room: &mut [i
     answer
 }
 
-// y(j) at every place, worked in a lent room: 0, or the refusal. The room that was used holds zeros after it.
-pub fn predict_in_room(order: u32, taps: u32, h: &[i32], out: &mut [i32], room: &mut [i64]) -> u32
+// The checks, and the prediction where none refuses: 0, or the refusal.
+fn check_and_predict_lent(
+    order: u32,
+    taps: u32,
+    h: &[i32],
+    out: &mut [i32],
+    room: &mut [i64],
+) -> u32
     ensures { λ r. ⌜ (r, now (out .exit), now (room .exit))
         ≡ roomedOutcome order taps (now (h .entry)) (now (out .entry)) (now (room .entry)) ⌝ }
 {
@@ -45,4 +54,22 @@ pub fn predict_in_room(order: u32, taps: u32, h: &[i32], out: &mut [i32], room: 
         return 7;
     }
     predict_lent(order, taps, h, out, room)
+}
+
+// y(j) at every place, worked in a lent room, refusing 1 to 8. The room that was used holds zeros after it.
+pub fn predict_in_room(
+    order: u32,
+    taps: u32,
+    h: &[i32],
+    out: &mut [i32],
+    room: &mut [i64],
+) -> Answer
+    ensures { λ r. ⌜ ((r .number, now (out .exit), now (room .exit)) ≡ roomedOutcome order taps (now (h .entry)) (now (out .entry)) (now (room .entry)))
+        × (r .period ≡ told order taps (r .number) 0) ⌝ }
+{
+    tell(
+        order,
+        taps,
+        check_and_predict_lent(order, taps, h, out, room),
+    )
 }

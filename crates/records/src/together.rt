@@ -3,7 +3,7 @@ use crate::Campaign;
 use crate::stored::store_holds;
 use crate::tables::filed_holds;
 use register::shift::full_period;
-use register::taps::check_taps;
+use register::taps::taps_refusal;
 ghost use mathlib.Core.Path.{_≡_};
 ghost use Rattle.records.specs.Record.{together};
 
@@ -13,7 +13,7 @@ pub fn holds(c: Campaign, store: &[i32], sums: &[i64]) -> bool
 {
     let order = c.order;
     let taps = c.taps;
-    if check_taps(order, taps) != 0 {
+    if taps_refusal(order, taps) != 0 {
         return false;
     }
     if !filed_holds(c) {

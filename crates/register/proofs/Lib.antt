@@ -10,4 +10,5 @@ pub mod TagReturn
 mod Factors
 pub mod Divisors
 pub mod OddTaps
+pub mod HowShort
 pub mod Sequences

@@ -1,7 +1,9 @@
 // Taps: judged by the first return of the tags, which comes after the full period where the register's does, and is looked for at the period over its
 // primes alone.
+use crate::Answer;
 use crate::doubling::tag_at;
 use crate::shift::full_period;
+use crate::telling::tell;
 ghost use mathlib.Core.Path.{_≡_};
 ghost use mathlib.Core.Bool.{_&&_};
 ghost use Prim.Native.Nat.{_^_, _≤_, _<_};
@@ -9,7 +11,7 @@ ghost use lib.Dec.{eqb};
 ghost use Rattle.sums.specs.Refusals.{first};
 ghost use Rattle.register.specs.Register.{P, tag as tagOf, Tapped};
 ghost use Rattle.register.specs.Doubling.{prime as primeOf, rootBound as rootBoundOf, returnsAt, returnsEarly};
-ghost use Rattle.register.specs.Calls.{shapeChecks, tapsAnswer};
+ghost use Rattle.register.specs.Calls.{answerOf, shapeChecks, tapsAnswer};
 
 // Whether the tags return after m steps, where that is asked.
 fn home(order: u32, taps: u32, m: u32, asked: bool) -> bool
@@ -93,8 +95,8 @@ pub fn check_shape(order: u32, taps: u32) -> u32
     0
 }
 
-// Taps check: 0 where the register first returns to all ones after 2^order - 1 steps, or the refusal.
-pub fn check_taps(order: u32, taps: u32) -> u32
+// The first of 1, 2, 3, 4 that refuses the taps, and 0 where the register first returns to all ones after 2^order - 1 steps.
+pub fn taps_refusal(order: u32, taps: u32) -> u32
     ensures { λ r. ⌜ r ≡ tapsAnswer order taps ⌝ }
 {
     let refusal = check_shape(order, taps);
@@ -108,4 +110,11 @@ pub fn check_taps(order: u32, taps: u32) -> u32
         return 4;
     }
     0
+}
+
+// Taps check: the number, and the steps after which the register first returns to all ones.
+pub fn check_taps(order: u32, taps: u32) -> Answer
+    ensures { λ r. ⌜ r ≡ answerOf order taps (tapsAnswer order taps) ⌝ }
+{
+    tell(order, taps, taps_refusal(order, taps))
 }

@@ -5,17 +5,23 @@ use mathlib.Core.List.{[]}
 use Prim.Native.Nat.{ℕ}
 use lib.IntN.{negsuc}
 use Rattle.sums.specs.Text.{ascii}
+use Rattle.register.specs.declared.Answer.{Answer}
 use Rattle.campaign.specs.declared.Verdict.the-variants as verdict
 use Rattle.trend.specs.declared.Tally.{Tally}
 use Rattle.report.specs.declared.Line.the-variants as line
 use Rattle.report.specs.Lines.{digits, lineBytes, rowBytes, badBytes}
+
+abbrev answer : ℕ → ℕ → Answer
+answer n p = record { number = n; period = p }
 
 abbrev tally : ℕ → ℕ → ℕ → ℕ → ℕ → Tally
 tally u s o d w = record { unseen = u; standing = s; overloaded = o; dead = d; withdrawn = w }
 
 pub record Spelt : Type 0 where
   pub silent : lineBytes line.Silent ≡ []
-  pub started : lineBytes (line.Started 0) ≡ ascii "start 0\n"
+  pub started : lineBytes (line.Started (answer 0 7)) ≡ ascii "start 0\n"
+  pub start-refused : lineBytes (line.Started (answer 9 0)) ≡ ascii "start 9\n"
+  pub short : lineBytes (line.Started (answer 4 5)) ≡ ascii "start 4 5\n"
   pub kept : lineBytes (line.Entered (record { day = 1; verdict = verdict.Kept 0 })) ≡ ascii "enter 1 0 kept\n"
   pub overloaded : lineBytes (line.Entered (record { day = 2; verdict = verdict.Overloaded 3 })) ≡ ascii "enter 2 0 overload\n"
   pub dead : lineBytes (line.Entered (record { day = 2; verdict = verdict.Dead })) ≡ ascii "enter 2 0 dead\n"
@@ -32,6 +38,8 @@ lines-spelt =
     record {
       silent = refl;
       started = refl;
+      start-refused = refl;
+      short = refl;
       kept = refl;
       overloaded = refl;
       dead = refl;

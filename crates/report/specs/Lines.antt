@@ -4,11 +4,12 @@ use mathlib.Core.List.{List, [], _∷_, _++_}
 use mathlib.Core.Bool.{cond}
 use Prim.Native.Nat.{ℕ, zero, suc, _+_, _/_, _%_}
 use Prim.Native.Char.{code}
-use lib.Dec.{ltb}
+use lib.Dec.{eqb, ltb}
 use lib.IntN.{ℤ, pos, natAbs}
 use lib.ListN.{length, take}
 use lib.Signed.{ltZ}
 use Rattle.sums.specs.Text.{ascii}
+use Rattle.register.specs.declared.Answer.{Answer}
 use Rattle.campaign.specs.Calls.{verdictNumber}
 use Rattle.campaign.specs.declared.Entry.{Entry}
 use Rattle.campaign.specs.declared.Verdict.{Verdict}
@@ -41,9 +42,13 @@ spaced n = ascii " " ++ decimal n
 abbrev pub lineEnd : List ℕ
 lineEnd = ascii "\n"
 
--- `start answer`
-abbrev pub startLine : ℕ → List ℕ
-startLine answer = ascii "start" ++ spaced answer ++ lineEnd
+-- the answer's number, and after 4 the period
+abbrev pub answerText : Answer → List ℕ
+answerText a = cond (eqb (a .number) 4) (spaced (a .number) ++ spaced (a .period)) (spaced (a .number))
+
+-- `start answer`, and after 4 the period
+abbrev pub startLine : Answer → List ℕ
+startLine a = ascii "start" ++ answerText a ++ lineEnd
 
 -- kept, overload, dead, or - when refused
 abbrev pub verdictWord : Verdict → List ℕ
@@ -68,7 +73,7 @@ responseLine answer t =
 -- the line that an item makes
 abbrev pub lineBytes : Line → List ℕ
 lineBytes line.Silent = []
-lineBytes (line.Started answer) = startLine answer
+lineBytes (line.Started a) = startLine a
 lineBytes (line.Entered e) = enterLine e
 lineBytes (line.Withdrawn d answer) = withdrawLine d answer
 lineBytes (line.Answered answer t) = responseLine answer t

@@ -2,13 +2,13 @@
 pub mod printing;
 
 use campaign::Entry;
+use register::Answer;
 use trend::Tally;
 
 // The line that an item makes.
 pub enum Line {
     Silent,
-    // The answer.
-    Started(u32),
+    Started(Answer),
     Entered(Entry),
     // The day and the answer.
     Withdrawn(u32, u32),

@@ -4,6 +4,7 @@ use crate::Line;
 use crate::Text;
 use campaign::Entry;
 use campaign::Verdict;
+use register::Answer;
 use samples::size::size;
 use trend::Tally;
 ghost use mathlib.Core.Path.{_≡_};
@@ -11,7 +12,7 @@ ghost use mathlib.Core.List.{List, [], _∷_, _++_};
 ghost use Prim.Native.Nat.{_+_, _≤_, _<_};
 ghost use lib.ListN.{length, take, drop};
 ghost use Rattle.campaign.specs.Calls.{verdictNumber};
-ghost use Rattle.report.specs.Lines.{decimal, decimalZ, spaced, verdictWord, startLine, enterLine, withdrawLine, responseLine};
+ghost use Rattle.report.specs.Lines.{decimal, decimalZ, spaced, answerText, verdictWord, startLine, enterLine, withdrawLine, responseLine};
 ghost use Rattle.report.specs.Lines.{lineBytes, rowBytes, badBytes, Wrote};
 
 const SPACE: u8 = 32;
@@ -123,13 +124,24 @@ fn number_of(verdict: Verdict) -> u32
     }
 }
 
-// `start answer`
-fn write_start(answer: u32, out: &mut [u8]) -> usize
+// The number, and after 4 the period.
+fn put_answer(answer: Answer, out: &mut [u8], at: usize) -> usize
+    requires { ⌜ at + 42 ≤ length (now out) ⌝ }
+    ensures { λ r. ⌜ Wrote (answerText answer) at (now (out .entry)) r (now (out .exit)) × (r ≤ at + 42) ⌝ }
+{
+    if answer.number == 4 {
+        return put_pair(answer.number, answer.period, out, at);
+    }
+    put_spaced(answer.number as u64, out, at)
+}
+
+// `start answer`, and after 4 the period
+fn write_start(answer: Answer, out: &mut [u8]) -> usize
     requires { ⌜ length (now out) ≡ 128 ⌝ }
     ensures { λ r. ⌜ Wrote (startLine answer) 0 (now (out .entry)) r (now (out .exit)) ⌝ }
 {
     let mut at = put_word(b"start", out, 0);
-    at = put_spaced(answer as u64, out, at);
+    at = put_answer(answer, out, at);
     put_byte(LINE_END, out, at)
 }
 

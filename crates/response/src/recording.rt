@@ -2,6 +2,8 @@
 use crate::given::given_refusal;
 use crate::respond::finish;
 use crate::spread::spread;
+use register::Answer;
+use register::telling::tell;
 use samples::lengths::room_short;
 use samples::range::some_out;
 ghost use mathlib.Core.Path.{_≡_};
@@ -10,6 +12,7 @@ ghost use Prim.Native.Nat.{_+_, _*_, _≤_, _<_};
 ghost use lib.ListN.{length};
 ghost use Rattle.sums.specs.Lists.{at, table, put};
 ghost use Rattle.register.specs.Register.{P, wave, Accepted};
+ghost use Rattle.register.specs.Calls.{told};
 ghost use Rattle.response.specs.Response.{response};
 ghost use Rattle.samples.specs.Samples.{someOut, clearedWide, clearedTags};
 ghost use Rattle.response.specs.Calls.{recordingOutcome};
@@ -26,8 +29,8 @@ fn turn(order: u32, taps: u32, y: &[i32], out: &mut [i64], room: &mut [i64], tag
     finish(order, taps, room, out, tags, y.len());
 }
 
-// r(k) at every place: 0, or the refusal. The room that was used holds zeros after it.
-pub fn one_recording(
+// The checks, and the response where none refuses: 0, or the refusal.
+fn check_and_turn(
     order: u32,
     taps: u32,
     y: &[i32],
@@ -50,4 +53,19 @@ pub fn one_recording(
     }
     turn(order, taps, y, out, room, tags);
     0
+}
+
+// r(k) at every place, refusing 1 to 7. The room that was used holds zeros after it.
+pub fn one_recording(
+    order: u32,
+    taps: u32,
+    y: &[i32],
+    out: &mut [i64],
+    room: &mut [i64],
+    tags: &mut [u16],
+) -> Answer
+    ensures { λ r. ⌜ ((r .number, now (out .exit), now (room .exit), now (tags .exit))
+        ≡ recordingOutcome order taps (now (y .entry)) (now (out .entry)) (now (room .entry)) (now (tags .entry))) × (r .period ≡ told order taps (r .number) 0) ⌝ }
+{
+    tell(order, taps, check_and_turn(order, taps, y, out, room, tags))
 }

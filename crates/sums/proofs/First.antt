@@ -2,10 +2,11 @@
 -- one more. Assumes nothing.
 use mathlib.Core.Path.{_≡_, refl, sym, ap, _∙_, subst}
 use mathlib.Core.List.{List, [], _∷_, _++_}
-use mathlib.Core.Bool.{Bool, true, false, cond, _||_}
+use mathlib.Core.Bool.{Bool, true, false, cond, not, _&&_, _||_}
 use Prim.Native.Nat.{ℕ, zero, suc}
 use native.Mathlib.Omega.{arith}
-use lib.Dec.{T}
+use borrow.Author.Tests.{eqb-false}
+use lib.Dec.{T, eqb}
 use Rattle.sums.specs.Refusals.{first, answered, outcome}
 
 -- no check has the number 0, which means accepted
@@ -13,6 +14,29 @@ abbrev pub numbered : List (ℕ × Bool) → Bool
 numbered [] = true
 numbered ((zero, test) ∷ checks) = false
 numbered ((suc n, test) ∷ checks) = numbered checks
+
+-- a list of checks that has not the number n, nor 0
+abbrev pub lacks : ℕ → List (ℕ × Bool) → Bool
+lacks n [] = not (eqb 0 n)
+lacks n (check ∷ checks) = not (eqb (check .0) n) && lacks n checks
+
+negated : (x : Bool) → T (not x) → x ≡ false
+negated false t = refl
+negated true t = absurd t
+
+T-both : (a b : Bool) → T (a && b) → T a × T b
+T-both true b t = (tt, t)
+T-both false b t = absurd t
+
+pub not-first : (n : ℕ) (checks : List (ℕ × Bool)) → T (lacks n checks) → first checks ≡ n → ⊥
+not-first n [] t e = eqb-false 0 n (negated (eqb 0 n) t) e
+not-first n (check ∷ checks) t e =
+    let p = T-both (not (eqb (check .0) n)) (lacks n checks) t in
+    go (check .1) (p .0) (λ g. not-first n checks (p .1) g) e
+  where
+    go : (b : Bool) → T (not (eqb (check .0) n)) → (first checks ≡ n → ⊥) → cond b (check .0) (first checks) ≡ n → ⊥
+    go true p r e = eqb-false (check .0) n (negated (eqb (check .0) n) p) e
+    go false p r e = r e
 
 -- refused by the first list: the second is not looked at
 pub refused-first : (a b : List (ℕ × Bool)) → (first a ≡ 0 → ⊥) → first (a ++ b) ≡ first a
@@ -80,3 +104,33 @@ module _ {A : Type 0} (refused : ℕ → A) (accepted : A) where
   -- r is the answer, and 0
   pub accepted-with : (checks : List (ℕ × Bool)) (r : ℕ) → r ≡ first checks → r ≡ 0 → outcome checks refused accepted ≡ accepted
   accepted-with checks r e z = ap (λ n. answered n refused accepted) (sym e ∙ z)
+
+-- ---- the number that a call answers
+
+-- what is read off an outcome, by that number alone
+pub read-off : {A B : Type 0} (checks : List (ℕ × Bool)) (read : A → B) (of : ℕ → B) (back : ℕ → A) (accepted : A)
+    → ((n : ℕ) → read (back n) ≡ of n) → read accepted ≡ of 0 → read (outcome checks back accepted) ≡ of (first checks)
+read-off checks read of back accepted refused none = go (first checks)
+  where
+    go : (n : ℕ) → read (answered n back accepted) ≡ of n
+    go zero = none
+    go (suc n) = refused (suc n)
+
+-- a refusal tells its number, and what is accepted tells 0
+module _ {A : Type 0} (checks : List (ℕ × Bool)) (number : A → ℕ) (back : ℕ → A) (accepted : A) (told : (n : ℕ) → number (back n) ≡ n) where
+  pub answers-first : number accepted ≡ 0 → number (outcome checks back accepted) ≡ first checks
+  answers-first none = read-off checks number (λ n. n) back accepted told none
+
+  pub refused-same : number accepted ≡ 0 → (number (outcome checks back accepted) ≡ 0 → ⊥) → outcome checks back accepted ≡ back (number (outcome checks back accepted))
+  refused-same none = go (first checks)
+    where
+      go : (n : ℕ) → (number (answered n back accepted) ≡ 0 → ⊥) → answered n back accepted ≡ back (number (answered n back accepted))
+      go zero h = absurd (h none)
+      go (suc n) h = ap back (sym (told (suc n)))
+
+  pub accepted-is : number (outcome checks back accepted) ≡ 0 → outcome checks back accepted ≡ accepted
+  accepted-is = go (first checks)
+    where
+      go : (n : ℕ) → number (answered n back accepted) ≡ 0 → answered n back accepted ≡ accepted
+      go zero e = refl
+      go (suc n) e = absurd (omega (arith, told (suc n)))

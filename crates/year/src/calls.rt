@@ -61,7 +61,8 @@ pub fn start_line(
         &mut store[..samples],
         &mut sums[..wide],
     );
-    start_words(done.answer);
+    let answer = done.answer;
+    start_words(answer.number);
     let after = done.campaign;
     with_record(held, after, sums)
 }

@@ -25,7 +25,7 @@ fn predict_line(order: u32, taps: u32, period: usize, out: &mut [i32])
     h[0] = HIGHEST;
     h[1] = HIGHEST;
     let answer = prediction::predict(order, taps, &h[..period], out);
-    answer_line(b"predict", answer);
+    answer_line(b"predict", answer.number);
 }
 
 fn step_line(order: u32, taps: u32, window: u32) {

@@ -1,5 +1,5 @@
 -- `campaign::starting::start` meets its contract. Assumes nothing.
-use mathlib.Core.Path.{_≡_, sym, ap, _∙_}
+use mathlib.Core.Path.{_≡_, refl, sym, ap, _∙_}
 use mathlib.Core.List.{List}
 use Prim.Native.Nat.{ℕ, _*_, _≤_}
 use native.Mathlib.Nat.{mul-le-mul}
@@ -9,6 +9,9 @@ use lib.IntN.{ℤ}
 use Rattle.sums.specs.Refusals.{first}
 use Rattle.sums.proofs.First.{refused-with, accepted-with}
 use Rattle.register.specs.Register.{P}
+use Rattle.register.specs.Calls.{answerOf, Reached}
+use Rattle.register.specs.declared.Answer.{Answer}
+use Rattle.register.proofs.HowShort.{reached}
 use Rattle.register.proofs.Word.{small}
 use Rattle.samples.specs.Samples.{clearedWide}
 use Rattle.records.specs.Record.{fresh}
@@ -20,26 +23,37 @@ use Rattle.campaign.proofs.starting.start.Statement.{statement}
 use Rattle.campaign.proofs.starting.start.Tie as tie
 
 module _ (c : Campaign) (N taps C : ℕ) (store sums : List ℤ) (n : ℕ) (e : n ≡ first (startChecks N taps C store sums)) where
-  refused : (n ≡ 0 → ⊥) → (record { answer = n; campaign = c }, store, sums) ≡ startOutcome c N taps C store sums
-  unfolding startOutcome
-  refused h = sym (refused-with _ _ (startChecks N taps C store sums) n e h)
+  seen : Reached N taps n
+  seen = rw e (reached N taps (startChecks N taps C store sums) refl)
 
-  accepted : n ≡ 0 → {r : Campaign} {s u : List ℤ} → r ≡ fresh N taps C → s ≡ clearedWide (C * P N) store → u ≡ clearedWide (P N) sums
-      → _≡_ {A = Started × List ℤ × List ℤ} (record { answer = 0; campaign = r }, s, u) (startOutcome c N taps C store sums)
+  refused : {a : Answer} → a ≡ answerOf N taps n → (n ≡ 0 → ⊥)
+      → _≡_ {A = Started × List ℤ × List ℤ} (record { answer = a; campaign = c }, store, sums) (startOutcome c N taps C store sums)
   unfolding startOutcome
-  accepted z p q t = rw (p, q, t) (sym (accepted-with _ _ (startChecks N taps C store sums) n e z))
+  refused w h = rw w (sym (refused-with _ _ (startChecks N taps C store sums) n e h))
+
+  accepted : {a : Answer} → a ≡ answerOf N taps n → n ≡ 0 → {r : Campaign} {s u : List ℤ}
+      → r ≡ fresh N taps C → s ≡ clearedWide (C * P N) store → u ≡ clearedWide (P N) sums
+      → _≡_ {A = Started × List ℤ × List ℤ} (record { answer = a; campaign = r }, s, u) (startOutcome c N taps C store sums)
+  unfolding startOutcome
+  accepted w z p q t = rw (w ∙ ap (answerOf N taps) z, p, q, t) (sym (accepted-with _ _ (startChecks N taps C store sums) n e z))
 
 start-refusal-requires : tie.Need-start-refusal-requires
 start-refusal-requires c κs = search needs
 
+tell-requires : tie.Need-tell-requires
+tell-requires c κs = let a = c .before .args in seen (a .c) (a .order) (a .taps) (a .capacity) (a .store .now) (a .sums .now) _ (c .start-refusal .ensures)
+
 returns : tie.Need-returns
-returns c = let a = c .before .before .args in refused (a .c) (a .order) (a .taps) (a .capacity) (a .store .now) (a .sums .now) _ (c .before .start-refusal .ensures) (c .if1 .taken)
+returns c =
+    let b = c .before .before in
+    let a = b .before .args in
+    refused (a .c) (a .order) (a .taps) (a .capacity) (a .store .now) (a .sums .now) _ (b .start-refusal .ensures) (c .before .tell .ensures) (c .if1 .taken)
 
 -- past the checks
-ready : (c : tie.Else1) → let a = c .before .before .args in Begins (a .order) (a .taps) (a .capacity) (a .store .now) (a .sums .now)
+ready : (c : tie.Else1) → let a = c .before .before .before .args in Begins (a .order) (a .taps) (a .capacity) (a .store .now) (a .sums .now)
 ready c =
-    let a = c .before .before .args in
-    begins (a .order) (a .taps) (a .capacity) (a .store .now) (a .sums .now) (sym (c .before .start-refusal .ensures) ∙ c .if1 .left)
+    let a = c .before .before .before .args in
+    begins (a .order) (a .taps) (a .capacity) (a .store .now) (a .sums .now) (sym (c .before .before .start-refusal .ensures) ∙ c .if1 .left)
 
 full-period-requires : tie.Need-full-period-requires
 full-period-requires c κs = ready c .accepted .shaped .most
@@ -55,7 +69,7 @@ mul-clear-samples c = omega (arith, mul-le-mul (ready (c .before .before) .most)
 
 clear-samples-requires : tie.Need-clear-samples-requires
 clear-samples-requires c κs =
-    let a = c .before .before .before .before .args in
+    let a = c .before .before .before .before .before .args in
     omega (arith, ready (c .before .before) .store-long, ap (λ n. a .capacity * n) (c .before .full-period .ensures))
 
 clear-wide-requires : tie.Need-clear-wide-requires
@@ -73,9 +87,10 @@ same-length-2 c = search needs
 returns-2 : tie.Need-returns-2
 returns-2 c =
     let f = c .before .before .before .before .before .before .before in
-    let a = f .before .before .before .args in
+    let w = f .before .before in
+    let a = w .before .before .args in
     let e = f .full-period .ensures in
-    accepted (a .c) (a .order) (a .taps) (a .capacity) (a .store .now) (a .sums .now) _ (f .before .before .start-refusal .ensures) (f .before .if1 .left)
+    accepted (a .c) (a .order) (a .taps) (a .capacity) (a .store .now) (a .sums .now) _ (w .before .start-refusal .ensures) (w .tell .ensures) (f .before .if1 .left)
     (c .blank .ensures)
     (c .before .before .before .before .before .clear-samples .ensures ∙ ap (λ n. clearedWide (a .capacity * n) (a .store .now)) e)
     (c .before .before .clear-wide .ensures ∙ ap (λ n. clearedWide n (a .sums .now)) e)
@@ -85,6 +100,7 @@ start-spec =
     tie.close
     (tie.spec
     start-refusal-requires
+    tell-requires
     returns
     full-period-requires
     cast-period

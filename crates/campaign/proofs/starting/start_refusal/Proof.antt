@@ -28,19 +28,19 @@ unfolding tapsAnswer
 says N taps C store sums z p q =
     rw (p, q) (sym (passed-first (tapsChecks N taps) (rest N C store sums) tt z))
 
-check-taps-requires : tie.Need-check-taps-requires
-check-taps-requires c κs = search needs
+taps-refusal-requires : tie.Need-taps-refusal-requires
+taps-refusal-requires c κs = search needs
 
 returns : tie.Need-returns
 unfolding tapsAnswer
 returns c =
-    let e = c .before .check-taps .ensures in
+    let e = c .before .taps-refusal .ensures in
     let a = c .before .before .args in
     e ∙ sym (refused-first (tapsChecks (a .order) (a .taps)) (rest (a .order) (a .capacity) (a .store) (a .sums)) (λ z. c .if1 .taken (e ∙ z)))
 
 -- past the taps check
 passed : (c : tie.Else1) → let a = c .before .before .args in tapsAnswer (a .order) (a .taps) ≡ 0
-passed c = sym (c .before .check-taps .ensures) ∙ c .if1 .left
+passed c = sym (c .before .taps-refusal .ensures) ∙ c .if1 .left
 
 accepted : (c : tie.Else1) → let a = c .before .before .args in Accepted (a .order) (a .taps)
 accepted c = let a = c .before .before .args in accepted-exactly (a .order) (a .taps) .0 (passed c)
@@ -82,7 +82,7 @@ pub start-refusal-spec : {M : Type 1} → statement M
 start-refusal-spec =
     tie.close
     (tie.spec
-    check-taps-requires
+    taps-refusal-requires
     returns
     outside-requires
     returns-2

@@ -1,11 +1,14 @@
 -- `logbook::applying::begin` meets its contract. Assumes nothing.
-use mathlib.Core.Path.{_≡_, sym, ap, _∙_}
+use mathlib.Core.Path.{_≡_, refl, sym, ap, _∙_}
 use mathlib.Core.List.{List}
 use Prim.Native.Nat.{ℕ}
 use borrow.Author.Needs.{needs}
 use lib.IntN.{ℤ}
 use Rattle.sums.specs.Refusals.{first}
 use Rattle.sums.proofs.First.{refused-with, accepted-with}
+use Rattle.register.specs.Calls.{answerOf, Reached}
+use Rattle.register.specs.declared.Answer.{Answer}
+use Rattle.register.proofs.HowShort.{reached}
 use Rattle.records.specs.declared.Campaign.{Campaign}
 use Rattle.campaign.specs.Calls.{startOutcome}
 use Rattle.campaign.specs.declared.Started.{Started}
@@ -15,10 +18,13 @@ use Rattle.logbook.proofs.applying.begin.Statement.{statement}
 use Rattle.logbook.proofs.applying.begin.Tie as tie
 
 module _ (c : Campaign) (N taps C : ℕ) (store sums : List ℤ) (n : ℕ) (e : n ≡ first (logStartChecks N taps C)) where
-  refused : (n ≡ 0 → ⊥) → {x : Applied} → x ≡ startedBy (record { answer = n; campaign = c })
+  seen : Reached N taps n
+  seen = rw e (reached N taps (logStartChecks N taps C) refl)
+
+  refused : {a : Answer} → a ≡ answerOf N taps n → (n ≡ 0 → ⊥) → {x : Applied} → x ≡ startedBy (record { answer = a; campaign = c })
       → (x, store, sums) ≡ beganOutcome c N taps C store sums
   unfolding beganOutcome
-  refused h q = rw q (sym (refused-with _ _ (logStartChecks N taps C) n e h))
+  refused w h q = rw (q, w) (sym (refused-with _ _ (logStartChecks N taps C) n e h))
 
   accepted : n ≡ 0 → {x : Applied} {s : Started} {st su : List ℤ} → x ≡ startedBy s → (s, st, su) ≡ startOutcome c N taps C store sums
       → (x, st, su) ≡ beganOutcome c N taps C store sums
@@ -28,14 +34,21 @@ module _ (c : Campaign) (N taps C : ℕ) (store sums : List ℤ) (n : ℕ) (e : 
 start-refusal-requires : tie.Need-start-refusal-requires
 start-refusal-requires c κs = search needs
 
+tell-requires : tie.Need-tell-requires
+tell-requires c κs =
+    let a = c .before .before .args in
+    seen (a .c) (a .order) (a .taps) (a .capacity) (a .store .now) (a .sums .now) _ (c .before .start-refusal .ensures)
+
 started-by-requires : tie.Need-started-by-requires
 started-by-requires c κs = search needs
 
 returns : tie.Need-returns
 returns c =
-    let t = c .before in
+    let w = c .before in
+    let t = w .before in
     let a = t .before .before .args in
-    refused (a .c) (a .order) (a .taps) (a .capacity) (a .store .now) (a .sums .now) _ (t .before .start-refusal .ensures) (t .if1 .taken) (c .started-by .ensures)
+    refused (a .c) (a .order) (a .taps) (a .capacity) (a .store .now) (a .sums .now) _ (t .before .start-refusal .ensures) (w .tell .ensures) (t .if1 .taken)
+    (c .started-by .ensures)
 
 start-requires : tie.Need-start-requires
 start-requires c κs = search needs
@@ -62,6 +75,7 @@ begin-spec =
     tie.close
     (tie.spec
     start-refusal-requires
+    tell-requires
     started-by-requires
     returns
     start-requires

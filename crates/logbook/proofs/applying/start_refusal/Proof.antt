@@ -19,20 +19,20 @@ unfolding tapsAnswer
 says N taps C z p q =
     rw (p, q) (sym (passed-first (tapsChecks N taps) ((9, slotsOut C) ∷ (17, tooLarge N C) ∷ []) tt z))
 
-check-taps-requires : tie.Need-check-taps-requires
-check-taps-requires c κs = search needs
+taps-refusal-requires : tie.Need-taps-refusal-requires
+taps-refusal-requires c κs = search needs
 
 returns : tie.Need-returns
 unfolding tapsAnswer
 returns c =
-    let e = c .before .check-taps .ensures in
+    let e = c .before .taps-refusal .ensures in
     let a = c .before .before .args in
     let later : List (ℕ × Bool) = (9, slotsOut (a .capacity)) ∷ (17, tooLarge (a .order) (a .capacity)) ∷ [] in
     e ∙ sym (refused-first (tapsChecks (a .order) (a .taps)) later (λ z. c .if1 .taken (e ∙ z)))
 
 -- past the taps check
 passed : (c : tie.Else1) → let a = c .before .before .args in tapsAnswer (a .order) (a .taps) ≡ 0
-passed c = sym (c .before .check-taps .ensures) ∙ c .if1 .left
+passed c = sym (c .before .taps-refusal .ensures) ∙ c .if1 .left
 
 outside-requires : tie.Need-outside-requires
 outside-requires c κs = search needs
@@ -63,7 +63,7 @@ pub start-refusal-spec : {M : Type 1} → statement M
 start-refusal-spec =
     tie.close
     (tie.spec
-    check-taps-requires
+    taps-refusal-requires
     returns
     outside-requires
     returns-2

@@ -1,5 +1,5 @@
 -- `meter::campaigns::meter_start` meets its contract. Assumes nothing.
-use mathlib.Core.Path.{_≡_, sym, ap, _∙_}
+use mathlib.Core.Path.{_≡_, refl, sym, ap, _∙_}
 use mathlib.Core.Bool.{true, false}
 use mathlib.Core.List.{List, []}
 use Prim.Native.Nat.{ℕ}
@@ -8,11 +8,15 @@ use lib.IntN.{ℤ}
 use Rattle.sums.specs.Lists.{put}
 use Rattle.sums.specs.Refusals.{first}
 use Rattle.sums.proofs.First.{refused-with}
+use Rattle.register.specs.Calls.{told}
+use Rattle.register.proofs.HowShort.{reached, period-told, passed-on}
 use Rattle.records.specs.declared.Campaign.{Campaign}
 use Rattle.campaign.specs.declared.Started.{Started}
 use Rattle.campaign.specs.Calls.{startChecks, startOutcome}
+use Rattle.campaign.proofs.Passing.{start-tells}
 use Rattle.meter.specs.Doors.{tablesShort, recordOf, startDoorChecks, startDoor}
 use Rattle.meter.proofs.Opening.{long}
+use Rattle.meter.proofs.Telling.{handed-on}
 use Rattle.meter.proofs.Starting.{startedOut, short-refused, short-some, start-opened}
 use Rattle.meter.proofs.campaigns.meter_start.Statement.{statement}
 use Rattle.meter.proofs.campaigns.meter_start.Tie as tie
@@ -27,9 +31,15 @@ module _ (N taps C : ℕ) (days slots : List ℕ) (store sums : List ℤ) where
   opened : tablesShort days slots ≡ false → {c : Campaign} {e : Started} {s u : List ℤ} {days′ slots′ : List ℕ}
       → c ≡ recordOf N taps C days slots → (e, s, u) ≡ startOutcome c N taps C store sums
       → (days′ ≡ put (e .campaign .days) days) × (slots′ ≡ put (e .campaign .slots) slots)
-      → (e .answer, days′, slots′, s, u) ≡ startDoor N taps C days slots store sums
-  opened h {e = e} {s = s} {u = u} k o (f, g) =
-      rw (f, g) (ap (startedOut days slots) (o ∙ ap (λ c. startOutcome c N taps C store sums) k) ∙ sym (start-opened N taps C days slots store sums h))
+      → ((e .answer .number, days′, slots′, s, u) ≡ startDoor N taps C days slots store sums) × (e .answer .period ≡ told N taps (e .answer .number) 0)
+  opened h {c = c} {e = e} {s = s} {u = u} k o (f, g) = (
+    rw (f, g) (ap (startedOut days slots) (o ∙ ap (λ c. startOutcome c N taps C store sums) k) ∙ sym (start-opened N taps C days slots store sums h)),
+    period-told N taps (ap (λ (o : Started × List ℤ × List ℤ). o .0 .answer) o ∙ start-tells c N taps C store sums),
+  )
+
+-- an outcome of the door with another number
+abbrev with : ℕ → ℕ × List ℕ × List ℕ × List ℤ × List ℤ → ℕ × List ℕ × List ℕ × List ℤ × List ℤ
+with n o = (n, o .1, o .2, o .3, o .4)
 
 tables-short-requires : tie.Need-tables-short-requires
 tables-short-requires c κs = search needs
@@ -37,12 +47,24 @@ tables-short-requires c κs = search needs
 start-refusal-requires : tie.Need-start-refusal-requires
 start-refusal-requires c κs = search needs
 
+tell-requires : tie.Need-tell-requires
+tell-requires c κs =
+    let a = c .before .before .before .before .before .args in
+    rw (c .start-refusal .ensures) (reached (a .order) (a .taps) (startChecks (a .order) (a .taps) (a .capacity) [] []) refl)
+
+write-answer-requires : tie.Need-write-answer-requires
+write-answer-requires c κs = search needs
+
 returns : tie.Need-returns
 returns c =
-    let t = c .before in
+    let w = c .before .before in
+    let t = w .before .before in
     let a = t .before .before .before .before .args in
-    refused (a .order) (a .taps) (a .capacity) (a .days .now) (a .slots .now) (a .store .now) (a .sums .now)
-    (sym (t .before .tables-short .ensures) ∙ t .if1 .taken) (c .start-refusal .ensures)
+    handed-on (a .order) (a .taps) (a .period .now) with refl
+    (passed-on (a .order) (a .taps) with refl (w .tell .ensures)
+    (refused (a .order) (a .taps) (a .capacity) (a .days .now) (a .slots .now) (a .store .now) (a .sums .now)
+    (sym (t .before .tables-short .ensures) ∙ t .if1 .taken) (w .before .start-refusal .ensures)))
+    (c .write-answer .ensures)
 
 -- past the check
 wide : (c : tie.Else1) → tablesShort (c .before .before .before .before .args .days .now) (c .before .before .before .before .args .slots .now) ≡ false
@@ -56,6 +78,9 @@ start-requires c κs = search needs
 
 write-record-requires : tie.Need-write-record-requires
 write-record-requires c κs = long (c .before .before .before .before .before .before .before .before .before .before .before .before .before .before .before .args .days .now) (c .before .before .before .before .before .before .before .before .before .before .before .before .before .before .before .args .slots .now) (wide (c .before .before .before .before .before .before .before .before .before .before .before))
+
+write-answer-requires-2 : tie.Need-write-answer-requires-2
+write-answer-requires-2 c κs = search needs
 
 same-length : tie.Need-same-length
 same-length c = search needs
@@ -71,13 +96,15 @@ same-length-4 c = search needs
 
 returns-2 : tie.Need-returns-2
 returns-2 c =
-    let w = c .before .before .before .before in
+    let w = c .before .before .before .before .before .before .before in
     let e = w .before .before .before .before .before .before in
     let k = e .before .before .before in
     let i = k .before .before .before in
     let a = i .before .before .before .before .args in
-    opened (a .order) (a .taps) (a .capacity) (a .days .now) (a .slots .now) (a .store .now) (a .sums .now)
-    (wide i) (k .read-record .ensures) (e .start .ensures) (w .write-record .ensures)
+    handed-on (a .order) (a .taps) (a .period .now) with refl
+    (opened (a .order) (a .taps) (a .capacity) (a .days .now) (a .slots .now) (a .store .now) (a .sums .now)
+    (wide i) (k .read-record .ensures) (e .start .ensures) (w .write-record .ensures))
+    (c .write-answer2 .ensures)
 
 pub meter-start-spec : {M : Type 1} → statement M
 meter-start-spec =
@@ -85,10 +112,13 @@ meter-start-spec =
     (tie.spec
     tables-short-requires
     start-refusal-requires
+    tell-requires
+    write-answer-requires
     returns
     read-record-requires
     start-requires
     write-record-requires
+    write-answer-requires-2
     same-length
     same-length-2
     same-length-3

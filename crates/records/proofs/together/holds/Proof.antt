@@ -13,13 +13,13 @@ use Rattle.records.proofs.Whole.{whole, all-places, does-not, both-ways
 use Rattle.records.proofs.together.holds.Statement.{statement}
 use Rattle.records.proofs.together.holds.Tie as tie
 
-check-taps-requires : tie.Need-check-taps-requires
-check-taps-requires c κs = search needs
+taps-refusal-requires : tie.Need-taps-refusal-requires
+taps-refusal-requires c κs = search needs
 
 returns : tie.Need-returns
 returns c =
     let a = c .before .before .args in
-    does-not (a .c) (a .store .now) (a .sums .now) (λ t. c .if1 .taken (c .before .check-taps .ensures ∙ accepted-exactly (a .c .order) (a .c .taps) .1 (t .filed .accepted)))
+    does-not (a .c) (a .store .now) (a .sums .now) (λ t. c .if1 .taken (c .before .taps-refusal .ensures ∙ accepted-exactly (a .c .order) (a .c .taps) .1 (t .filed .accepted)))
 
 filed-holds-requires : tie.Need-filed-holds-requires
 filed-holds-requires c κs = search needs
@@ -40,7 +40,7 @@ cast-capacity c = search needs
 filed : (c : tie.Else2) → Filed (c .before .before .before .before .args .c)
 filed c =
     let a = c .before .before .before .before .args in
-    filed-by (a .c) (eq-eqb _ 0 (sym (c .before .before .before .check-taps .ensures) ∙ c .before .before .if1 .left))
+    filed-by (a .c) (eq-eqb _ 0 (sym (c .before .before .before .taps-refusal .ensures) ∙ c .before .before .if1 .left))
     (sym (c .before .filed-holds .ensures) ∙ not-false _ (c .if2 .left))
 
 full-period-requires : tie.Need-full-period-requires
@@ -88,7 +88,7 @@ pub holds-spec : {M : Type 1} → statement M
 holds-spec =
     tie.close
     (tie.spec
-    check-taps-requires
+    taps-refusal-requires
     returns
     filed-holds-requires
     returns-2

@@ -1,80 +1,34 @@
--- `register::sequence::sequence` meets its contract: the taps check decides 1 to 4, and what it leaves is the room. Assumes nothing.
+-- `register::sequence::sequence` meets its contract: what the checks and the bits come to, told with the period. Assumes nothing.
 use borrow.Author.Needs.{needs}
-use borrow.Author.Tests.{lt-ltb, le-ltb}
-use mathlib.Core.Path.{_≡_, sym, ap, _∙_}
-use mathlib.Core.List.{List, [], _∷_}
-use Prim.Native.Nat.{ℕ, _≤_}
-use native.Mathlib.Omega.{arith}
-use lib.ListN.{length}
-use Rattle.sums.specs.Lists.{table, put}
-use Rattle.sums.specs.Refusals.{outcome}
-use Rattle.sums.proofs.First.{refused-early, passed-early}
-use Rattle.register.specs.Register.{P, bit}
-use Rattle.register.specs.Calls.{tapsChecks, tooShort, tapsAnswer, sequenceOutcome}
-use Rattle.register.proofs.Judged.{accepted-exactly}
+use mathlib.Core.Path.{_≡_, refl}
+use mathlib.Core.List.{List}
+use Prim.Native.Nat.{ℕ}
+use Rattle.register.specs.Calls.{Reached, sequenceChecks, sequenceOutcome}
+use Rattle.register.proofs.HowShort.{reached-by, passed-on}
 use Rattle.register.proofs.sequence.sequence.Statement.{statement}
 use Rattle.register.proofs.sequence.sequence.Tie as tie
 
--- the outcome, by the taps check's answer
-module _ (N taps : ℕ) (out : List ℕ) (r : ℕ) (e : r ≡ tapsAnswer N taps) where
-  refused : (r ≡ 0 → ⊥) → sequenceOutcome N taps out ≡ (r, out)
-  unfolding sequenceOutcome tapsAnswer
-  refused h =
-      refused-early (λ n. (n, out)) (0, put (table (P N) (bit N taps)) out) (tapsChecks N taps) ((6, tooShort N (length out)) ∷ []) r e h
+seen : (N taps : ℕ) (before : List ℕ) {n : ℕ} {after : List ℕ} → (n, after) ≡ sequenceOutcome N taps before → Reached N taps n
+unfolding sequenceOutcome
+seen N taps before e = reached-by N taps (sequenceChecks N taps before) refl (λ (o : ℕ × List ℕ). o .0) _ _ (λ n. refl) refl e
 
-  passed : r ≡ 0 → sequenceOutcome N taps out ≡ outcome ((6, tooShort N (length out)) ∷ []) (λ n. (n, out)) (0, put (table (P N) (bit N taps)) out)
-  unfolding sequenceOutcome tapsAnswer
-  passed z =
-      passed-early (λ n. (n, out)) (0, put (table (P N) (bit N taps)) out) (tapsChecks N taps) ((6, tooShort N (length out)) ∷ []) r tt e z
+check-and-write-requires : tie.Need-check-and-write-requires
+check-and-write-requires c κs = search needs
 
-check-taps-requires : tie.Need-check-taps-requires
-check-taps-requires c κs = search needs
-
-returns : tie.Need-returns
-returns c =
-    let a = c .before .before .before .args in
-    sym (refused (a .order) (a .taps) (a .out .now) _ (c .before .check-taps .ensures) (c .if1 .taken))
-
-small : (c : tie.Else1) → c .before .before .before .args .order ≤ 16
-small c =
-    let a = c .before .before .before .args in
-    accepted-exactly (a .order) (a .taps) .0 (sym (c .before .check-taps .ensures) ∙ c .if1 .left) .shaped .most
-
-full-period-requires : tie.Need-full-period-requires
-full-period-requires c κs = small c
-
-cast-count : tie.Need-cast-count
-cast-count c = search needs
-
-returns-2 : tie.Need-returns-2
-returns-2 c =
-    let a = c .before .before .before .before .before .args in
-    sym (passed (a .order) (a .taps) (a .out .now) _ (c .before .before .before .check-taps .ensures) (c .before .before .if1 .left)
-    ∙ simp (lt-ltb (length (a .out .now)) (P (a .order)) (omega (arith, c .before .full-period .ensures))))
-
-write-bits-requires : tie.Need-write-bits-requires
-write-bits-requires c κs = (small (c .before .before .before), omega arith)
+tell-requires : tie.Need-tell-requires
+tell-requires c κs =
+    let w = c .before .before in
+    let a = w .before .before .before .args in
+    seen (a .order) (a .taps) (a .out .now) (w .check-and-write .ensures)
 
 same-length : tie.Need-same-length
 same-length c = search needs
 
-returns-3 : tie.Need-returns-3
-returns-3 c =
-    let b = c .before .before .before .before .before in
-    let a = b .before .before .before .before .args in
-    ap (λ l. (0, l)) (c .before .before .write-bits .ensures ∙ ap (λ n. put (table n (bit (a .order) (a .taps))) (a .out .now)) (b .full-period .ensures))
-    ∙ sym (passed (a .order) (a .taps) (a .out .now) _ (b .before .before .check-taps .ensures) (b .before .if1 .left)
-    ∙ simp (le-ltb (length (a .out .now)) (P (a .order)) (omega (arith, b .full-period .ensures))))
+returns : tie.Need-returns
+returns c =
+    let w = c .before .before .before in
+    let a = w .before .before .before .args in
+    passed-on (a .order) (a .taps) (λ n (o : ℕ × List ℕ). (n, o .1)) refl (c .tell .ensures) (w .check-and-write .ensures)
 
 pub sequence-spec : {M : Type 1} → statement M
-sequence-spec =
-    tie.close
-    (tie.spec
-    check-taps-requires
-    returns
-    full-period-requires
-    cast-count
-    returns-2
-    write-bits-requires
-    same-length
-    returns-3)
+sequence-spec = tie.close (tie.spec check-and-write-requires tell-requires same-length returns)

@@ -10,8 +10,8 @@ slice-aggregate-put-word c = search needs
 put-word-requires : tie.Need-put-word-requires
 put-word-requires c κs = search needs
 
-put-spaced-requires : tie.Need-put-spaced-requires
-put-spaced-requires c κs = search needs
+put-answer-requires : tie.Need-put-answer-requires
+put-answer-requires c κs = search needs
 
 put-byte-requires : tie.Need-put-byte-requires
 put-byte-requires c κs = search needs
@@ -23,7 +23,7 @@ returns : tie.Need-returns
 returns c =
     let e = c .before .before in
     let n = e .before .before .before .before in
-    wrote-three (n .before .before .before .before .put-word .ensures) (n .put-spaced .ensures .0) (e .put-byte .ensures)
+    wrote-three (n .before .before .before .before .put-word .ensures) (n .put-answer .ensures .0) (e .put-byte .ensures)
 
 pub write-start-spec : {M : Type 1} → statement M
 write-start-spec =
@@ -31,7 +31,7 @@ write-start-spec =
     (tie.spec
     slice-aggregate-put-word
     put-word-requires
-    put-spaced-requires
+    put-answer-requires
     put-byte-requires
     same-length
     returns)

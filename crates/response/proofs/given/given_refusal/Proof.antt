@@ -6,16 +6,16 @@ use Rattle.response.proofs.Checks.{given-refused, given-five, given-non
 use Rattle.response.proofs.given.given_refusal.Statement.{statement}
 use Rattle.response.proofs.given.given_refusal.Tie as tie
 
-check-taps-requires : tie.Need-check-taps-requires
-check-taps-requires c κs = search needs
+taps-refusal-requires : tie.Need-taps-refusal-requires
+taps-refusal-requires c κs = search needs
 
 returns : tie.Need-returns
-returns c = let a = c .before .before .args in given-refused (a .order) (a .taps) (a .y .now) (c .before .check-taps .ensures) (c .if1 .taken)
+returns c = let a = c .before .before .args in given-refused (a .order) (a .taps) (a .y .now) (c .before .taps-refusal .ensures) (c .if1 .taken)
 
 full-period-requires : tie.Need-full-period-requires
 full-period-requires c κs =
     let a = c .before .before .args in
-    accepted-exactly (a .order) (a .taps) .0 (sym (c .before .check-taps .ensures) ∙ c .if1 .left) .shaped .most
+    accepted-exactly (a .order) (a .taps) .0 (sym (c .before .taps-refusal .ensures) ∙ c .if1 .left) .shaped .most
 
 cast-if2 : tie.Need-cast-if2
 cast-if2 c = search needs
@@ -24,16 +24,16 @@ returns-2 : tie.Need-returns-2
 returns-2 c =
     let b = c .before .before in
     let a = b .before .before .args in
-    given-five (a .order) (a .taps) (a .y .now) (b .before .check-taps .ensures) (b .if1 .left)
+    given-five (a .order) (a .taps) (a .y .now) (b .before .taps-refusal .ensures) (b .if1 .left)
     (λ q. c .if2 .taken (q ∙ sym (c .before .full-period .ensures)))
 
 returns-3 : tie.Need-returns-3
 returns-3 c =
     let b = c .before .before in
     let a = b .before .before .args in
-    given-none (a .order) (a .taps) (a .y .now) (b .before .check-taps .ensures) (b .if1 .left) (c .if2 .left ∙ c .before .full-period .ensures)
+    given-none (a .order) (a .taps) (a .y .now) (b .before .taps-refusal .ensures) (b .if1 .left) (c .if2 .left ∙ c .before .full-period .ensures)
 
 pub given-refusal-spec : {M : Type 1} → statement M
 given-refusal-spec =
     tie.close
-    (tie.spec check-taps-requires returns full-period-requires cast-if2 returns-2 returns-3)
+    (tie.spec taps-refusal-requires returns full-period-requires cast-if2 returns-2 returns-3)
