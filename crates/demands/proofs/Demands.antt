@@ -211,8 +211,8 @@ demand-2 =
       prediction-in-room = prediction-in-room-at;
     }
 
--- ---- Document 02: "The maximality check must answer the number of steps after which the register first returns to all ones. Every call that can refuse with
--- 4 passes the number on. Accepted taps answer P."
+-- ---- Document 02: "The maximality check must answer the number of steps after which the register first returns to all ones. … Every call that can refuse
+-- with 4 passes the number on … Accepted taps answer P."
 --
 -- Beside its number n such a call tells `told N taps n was`, where `was` is 0 in the library's answer, and in C what the caller's number held. `Tells`:
 -- where n is 0 that is P; where n is 4 the register is back at all ones after that many steps and no fewer, and they are fewer than P; where n is

@@ -1,16 +1,16 @@
 // The period of an answer, where C has a number for it.
 use register::Answer;
 ghost use mathlib.Core.Path.{_≡_};
-ghost use mathlib.Core.Bool.{cond, _||_};
+ghost use mathlib.Core.Bool.{cond};
 ghost use lib.Dec.{eqb};
 
-// The answer's number; the period, which an accepted call and a refusal with 4 tell, where it is lent.
+// The answer's number; where the answer tells a period, which is never 0, it is written.
 pub fn write_answer(answer: Answer, period: &mut u32) -> u32
-    ensures { λ r. ⌜ (r ≡ answer .number) × (now (period .exit) ≡ cond (eqb r 0 || eqb r 4) (answer .period) (now (period .entry))) ⌝ }
+    ensures { λ r. ⌜ (r ≡ answer .number) × (now (period .exit) ≡ cond (eqb (answer .period) 0) (now (period .entry)) (answer .period)) ⌝ }
 {
-    let number = answer.number;
-    if number == 0 || number == 4 {
-        *period = answer.period;
+    let told = answer.period;
+    if told != 0 {
+        *period = told;
     }
-    number
+    answer.number
 }

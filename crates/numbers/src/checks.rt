@@ -6,6 +6,7 @@ use lines::print::line_end;
 use lines::print::number;
 use lines::print::three;
 use lines::print::word;
+use register::LEAST_ORDER;
 use register::shift::full_period;
 use register::taps::check_taps;
 ghost use Prim.Native.Nat.{_≤_};
@@ -47,6 +48,9 @@ fn accepted(number: u32) -> u64
     if number == 0 { 1 } else { 0 }
 }
 
+// Of larger orders the steps of all short registers take too long.
+const MOST_TRIED: u32 = 12;
+
 // Of all taps from 0 to 2^order: how many are accepted, and the digest of every number with its period.
 fn all_taps_line(order: u32)
     requires { ⌜ order ≤ 16 ⌝ }
@@ -64,10 +68,9 @@ fn all_taps_line(order: u32)
     three(b"all-taps", order as u64, count, d);
 }
 
-// Orders up to 12: beyond, the steps of all short registers take too long.
 pub fn all_taps_lines() {
-    let mut order = 2;
-    while order < 13 {
+    let mut order = LEAST_ORDER;
+    while order <= MOST_TRIED {
         all_taps_line(order);
         order += 1;
     }

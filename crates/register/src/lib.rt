@@ -10,8 +10,8 @@ pub const LEAST_ORDER: u32 = 2;
 
 pub const MOST_ORDER: u32 = 16;
 
-// What a call that asks for maximal taps answers: 0 or the refusal, and the steps after which the register first returns to all ones where the number is 0,
-// when they are P, or 4. At any other refusal the period is 0.
+// What a call that asks for maximal taps answers: 0 or the refusal; and the steps after which the register first returns to all ones, where it is accepted
+// and where 4 refuses it. At any other refusal the period is 0.
 pub struct Answer {
     pub number: u32,
     pub period: u32,
