@@ -24,6 +24,7 @@ static uint8_t days[METER_DAYS];
 static uint16_t slots[METER_SLOTS];
 static int32_t *store, *y, *h, *mean, *predicted;
 static int64_t *sums, *r, *room, *other;
+/* Two lists, of which the meter is lent the first and the plain C has both. */
 static uint16_t *tags;
 static double *doubles, *paper_room, *paper_out;
 static volatile int64_t sink;
@@ -36,7 +37,7 @@ static void must(int held, const char *what) {
 }
 
 #define RECORD order, taps, SLOT_COUNT, days, METER_DAYS, slots, METER_SLOTS, store, SLOT_COUNT *p, sums, p
-#define ROOM room, p + 1, tags, 2 * p
+#define ROOM room, p + 1, tags, p
 
 static void recording(void) { must(meter_recording(order, taps, y, p, r, p, ROOM, &period) == 0, "recording"); }
 static void predict(void) { must(meter_predict(order, taps, h, p, predicted, p, &period) == 0, "predict"); }

@@ -25,11 +25,11 @@ static int64_t sums[P + 1];
 static int64_t r[P + 1];
 static int32_t mean[P + 1];
 static int64_t room[P + 2];
-static uint16_t tags[2 * P + 1];
+static uint16_t tags[P + 1];
 static uint32_t period;
 
 #define RECORD ORDER, TAPS, SLOT_COUNT, days, METER_DAYS + 1, slots, METER_SLOTS + 1, store, SLOT_COUNT * P + 1, sums, P + 1
-#define ROOM room, P + 2, tags, 2 * P + 1
+#define ROOM room, P + 2, tags, P + 1
 
 static int says(uint32_t answer, const char *words) {
     return strcmp(meter_explain(answer), words) == 0;
@@ -74,7 +74,7 @@ static void recordings(void) {
     y[P] = 9;
     r[P] = 9;
     room[P + 1] = 9;
-    tags[2 * P] = 9;
+    tags[P] = 9;
     EXPECT(meter_predict(ORDER, TAPS, h, 6, y, P + 1, &period) == 5);
     EXPECT(meter_predict(ORDER, TAPS, h, P, y, P + 1, &period) == 0);
     EXPECT(memcmp(y, (int32_t[]){-1, -3, -1, 3, 3, -3, 1, 9}, sizeof y) == 0);
@@ -88,10 +88,10 @@ static void recordings(void) {
     EXPECT(meter_predict_in_room(ORDER, TAPS, loud, P, y, P + 1, room, P + 2, &period) == 8 && y[0] == 9);
     EXPECT(memcmp(room, (int64_t[]){0, 0, 0, 0, 0, 0, 0, 0, 9}, sizeof room) == 0);
     y[0] = -1;
-    EXPECT(meter_recording(ORDER, TAPS, y, P, r, P + 1, room, P, tags, 2 * P, &period) == 6);
+    EXPECT(meter_recording(ORDER, TAPS, y, P, r, P + 1, room, P, tags, P, &period) == 6);
     EXPECT(meter_recording(ORDER, TAPS, y, P, r, P + 1, ROOM, &period) == 0);
     EXPECT(memcmp(r, (int64_t[]){16, 0, -8, 0, 0, 0, 0, 9}, sizeof r) == 0);
-    EXPECT(room[0] == 0 && room[P] == 0 && room[P + 1] == 9 && tags[0] == 0 && tags[2 * P] == 9);
+    EXPECT(room[0] == 0 && room[P] == 0 && room[P + 1] == 9 && tags[0] == 0 && tags[P] == 9);
 }
 
 static void campaigns(void) {
@@ -139,7 +139,7 @@ static const char *const named[] = {"taps", "sequence", "recording", "predict", 
 /* All that is lent, for the largest order, each byte LEFT before a call. */
 static struct lent {
     uint8_t bits[MOST_P], days[METER_DAYS];
-    uint16_t tags[2 * MOST_P], slots[METER_SLOTS];
+    uint16_t tags[MOST_P], slots[METER_SLOTS];
     int32_t samples[MOST_P], store[MOST_P];
     int64_t wide[MOST_P], room[MOST_P + 1], sums[MOST_P];
 } lent, before;
@@ -159,7 +159,7 @@ static uint32_t answer_of(unsigned function, const struct given *g, uint32_t *to
     case OF_TAPS: return meter_taps(g->order, g->taps, told);
     case OF_SEQUENCE: return meter_sequence(g->order, g->taps, lent.bits, p - g->out, told);
     case OF_RECORDING:
-        return meter_recording(g->order, g->taps, in, p - g->in, lent.wide, p - g->out, lent.room, p + 1 - g->room, lent.tags, 2 * p - g->tags, told);
+        return meter_recording(g->order, g->taps, in, p - g->in, lent.wide, p - g->out, lent.room, p + 1 - g->room, lent.tags, p - g->tags, told);
     case OF_PREDICT: return meter_predict(g->order, g->taps, in, p - g->in, lent.samples, p - g->out, told);
     case OF_IN_ROOM:
         return meter_predict_in_room(g->order, g->taps, in, p - g->in, lent.samples, p - g->out, lent.room, p + 1 - g->room, told);

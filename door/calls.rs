@@ -102,7 +102,7 @@ struct Room {
 
 impl Room {
     fn new(p: usize) -> Room {
-        Room { wide: vec![5; p + 1], tags: vec![5; 2 * p] }
+        Room { wide: vec![5; p + 1], tags: vec![5; p] }
     }
 
     fn is_clear(&self) -> bool {

@@ -4,7 +4,7 @@
 #include <stdio.h>
 
 /* Order 2, taps 3: P is 3. A campaign has one slot. */
-enum { ORDER = 2, TAPS = 3, P = 3, ROOM = P + 1, TAGS = 2 * P };
+enum { ORDER = 2, TAPS = 3, P = 3, ROOM = P + 1, TAGS = P };
 
 static uint8_t days[METER_DAYS];
 static uint16_t slots[METER_SLOTS];
@@ -16,7 +16,7 @@ static void line(const char *call, const char *checks, uint32_t answer) {
     printf("%s: %s: %u\n", call, checks, answer);
 }
 
-/* The answer of a call that has a period, and the variable for it, which holds 7 before the call. */
+/* The answer of a call that has a period, and the variable for it, which holds UNWRITTEN before the call. */
 struct told {
     uint32_t answer, period;
 };

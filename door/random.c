@@ -84,6 +84,11 @@ static size_t near(size_t n) {
     return c == 0 ? n - 1 : c < 7 ? n : n + below(5);
 }
 
+/* Every fourth time twice as many as are needed, so that a call which clears all of them shows. */
+static size_t near_tags(size_t p) {
+    return below(4) == 0 ? 2 * p : near(p);
+}
+
 static void draw_samples(int32_t *y, size_t n) {
     uint64_t style = below(5);
     int32_t still = between(-8388608, 8388607);
@@ -165,7 +170,7 @@ static void player_case(void) {
 
 static void recording_case(void) {
     uint32_t order = any_order(), taps = any_taps(order), period = UNWRITTEN;
-    size_t p = period_of(order), n = near(p), a = near(p), b = near(p + 1), c = near(2 * p);
+    size_t p = period_of(order), n = near(p), a = near(p), b = near(p + 1), c = near_tags(p);
     FILLED(int32_t, y, n);
     FILLED(int64_t, out, a);
     FILLED(int64_t, room, b);
@@ -303,7 +308,7 @@ static uint32_t counts_call(struct held *c) {
 
 /* A response, or a summary, with room drawn alike for both. */
 static uint32_t asked_call(struct held *c, int summed) {
-    size_t p = period_of(c->order), a = near(p), m = near(p), w = near(p + 1), t = near(2 * p);
+    size_t p = period_of(c->order), a = near(p), m = near(p), w = near(p + 1), t = near_tags(p);
     FILLED(int64_t, r, a);
     FILLED(int32_t, mean, m);
     FILLED(int64_t, room, w);

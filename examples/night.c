@@ -35,14 +35,14 @@ int main(void) {
     const int32_t heard[P] = {-1, -3, -1, 3, 3, -3, 1}, still[P] = {5, 5, 5, 5, 5, 5, 5};
     int64_t r[P], room[P + 1];
     int32_t mean[P];
-    uint16_t tags[2 * P];
+    uint16_t tags[P];
     start(MISTYPED);
     uint32_t answer = start(TAPS);
     if (answer == METER_ACCEPTED) {
         enter(1, heard);
         enter(2, still);
         enter(367, heard);
-        answer = meter_response(CAMPAIGN, r, P, mean, P, room, P + 1, tags, 2 * P);
+        answer = meter_response(CAMPAIGN, r, P, mean, P, room, P + 1, tags, P);
     }
     if (answer != METER_ACCEPTED) {
         printf("refused: %s\n", meter_explain(answer));

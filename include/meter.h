@@ -96,8 +96,8 @@ uint32_t meter_player_play(uint32_t *order, uint32_t *taps, uint32_t *window, ui
 
 /* ---- one recording ---- */
 
-/* The response r(0) to r(P-1) of a recording of P samples. The room is P+1 wide numbers and 2P tags; it holds zeros after it:
- * 1 to 7. */
+/* The response r(0) to r(P-1) of a recording of P samples. The room is P+1 wide numbers and P tags, which hold zeros after it; 6 exactly where the
+ * output or the room is shorter: 1 to 7. */
 uint32_t meter_recording(uint32_t order, uint32_t taps, const int32_t *y, size_t y_len, int64_t *out, size_t out_len,
                          int64_t *room, size_t room_len, uint16_t *tags, size_t tags_len, uint32_t *period);
 

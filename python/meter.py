@@ -178,7 +178,7 @@ def _length(order):
 
 def _room(order):
     p = _length(order)
-    return (ctypes.c_int64 * (p + 1))(), (ctypes.c_uint16 * (2 * p))()
+    return (ctypes.c_int64 * (p + 1))(), (ctypes.c_uint16 * p)()
 
 
 # ---- the register

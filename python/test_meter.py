@@ -1,4 +1,6 @@
-"""Tries every call of meter.py on document 01's numbers and on its order of checks, the periods that it tells, the ledger of nights, and the example."""
+"""Tries every call of meter.py on document 01's numbers and on its order of checks, the room that it lends, the periods that it tells, the ledger of
+nights, and the example."""
+import ctypes
 import os
 import pathlib
 import pickle
@@ -70,6 +72,30 @@ class Calls(Case):
         self.refused(9, meter.Campaign, 3, 3, 65)
         c._tables[0][7] = 5
         self.refused(15, c.counts)
+
+
+class Room(Case):
+    def test_every_order_gets_by_on_p_tags(self):
+        for order in range(2, 17):
+            p = 2**order - 1
+            h = [3] + [0] * (p - 2) + [-2]
+            self.assertEqual([len(buffer) for buffer in meter._room(order)], [p + 1, p])
+            y = meter.predict(h, order)
+            self.assertEqual(meter.recording(y, order), [(p + 1) * value for value in h])
+            c = meter.Campaign(order, capacity=1)
+            c.enter(1, y)
+            self.assertEqual((c.response()[1], c.summary()), (h, (3.0, -2.0, 3.0)))
+
+    def test_the_manual_has_the_bytes_that_are_lent(self):
+        manual = (here.parent / "docs/MANUAL.md").read_text()
+        for order in (9, 12, 16):
+            p, c = 2**order - 1, meter.Campaign(order)
+            wide, tags = map(ctypes.sizeof, meter._room(order))
+            recording, r, mean = 4 * p, 8 * p, 4 * p
+            once = recording + r + wide + tags
+            held = once + mean + sum(map(ctypes.sizeof, c._tables + c._lent))
+            row = f"| {order} | {p:,} | {wide:,} + {tags:,} | {once:,} ({once + tags:,}) | {held:,} ({held + tags:,}) |"
+            self.assertIn(row, manual)
 
 
 # Registers that are not maximal: order, taps, and the steps after which they return.

@@ -65,6 +65,15 @@ fn near(rng: &mut Rng, n: usize) -> usize {
     }
 }
 
+/// One list in four is twice as long as it must be, so that a call which touches its second half shows.
+fn near_tags(rng: &mut Rng, p: usize) -> usize {
+    if rng.once_in(4) {
+        2 * p
+    } else {
+        near(rng, p)
+    }
+}
+
 fn period_of(order: u32) -> usize {
     if (2..=16).contains(&order) {
         (1 << order) - 1
@@ -177,7 +186,7 @@ fn recording_case(rng: &mut Rng) -> Vec<String> {
     let n = near(rng, p);
     let mut out: Vec<i64> = filled(near(rng, p));
     let mut wide: Vec<i64> = filled(near(rng, p + 1));
-    let mut tags: Vec<u32> = filled(near(rng, 2 * p));
+    let mut tags: Vec<u32> = filled(near_tags(rng, p));
     let y = samples(rng, n);
     let room = &mut Room {
         wide: &mut wide,
@@ -337,7 +346,7 @@ fn response_line(held: &Held, rng: &mut Rng, summed: bool) -> (u8, String) {
     let mut r: Vec<i64> = filled(near(rng, p));
     let mut means: Vec<i32> = filled(near(rng, p));
     let mut wide: Vec<i64> = filled(near(rng, p + 1));
-    let mut tags: Vec<u32> = filled(near(rng, 2 * p));
+    let mut tags: Vec<u32> = filled(near_tags(rng, p));
     let room = &mut Room {
         wide: &mut wide,
         tags: &mut tags,

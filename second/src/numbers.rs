@@ -21,7 +21,7 @@ pub fn response_of(order: u32, taps: u32, recording: &[i32]) -> Result<Vec<i64>,
     let mut r = vec![0; p];
     let mut room = Room {
         wide: &mut vec![0; p + 1],
-        tags: &mut vec![0; 2 * p],
+        tags: &mut vec![0; p],
     };
     one_recording(order, taps, recording, &mut r, &mut room)?;
     Ok(r)

@@ -15,7 +15,7 @@ use std::io::{self, Write};
 /// Order 2, taps 3: P is 3. A campaign has one slot.
 const P: usize = 3;
 const ROOM: usize = P + 1;
-const TAGS: usize = 2 * P;
+const TAGS: usize = P;
 
 /// Prints a line for each case.
 pub fn print(out: &mut impl Write) -> io::Result<()> {

@@ -1,5 +1,6 @@
-//! The working room that 01 asks of a caller. Direct sums use none of it,
-//! but a caller who lends too little is refused 6 all the same.
+//! The working room that 01 asks of a caller, with the tags of request 7 of 02.
+//! Direct sums use none of it, but a caller who lends too little is refused 6
+//! all the same.
 
 use crate::refusal::Refusal;
 
@@ -9,17 +10,17 @@ pub struct Room<'a> {
 }
 
 impl Room<'_> {
-    /// P+1 wide numbers and 2P tags.
+    /// P+1 wide numbers and P tags; the tags are P, half of what 01 asks, by request 7 of 02.
     pub fn check(&self, p: usize) -> Result<(), Refusal> {
-        if self.wide.len() < p + 1 || self.tags.len() < 2 * p {
+        if self.wide.len() < p + 1 || self.tags.len() < p {
             return Err(Refusal::RoomTooShort);
         }
         Ok(())
     }
 
-    /// On success the room holds zeros; its tails are kept.
+    /// On success the room holds zeros; what is lent beyond it is kept.
     pub fn clear(&mut self, p: usize) {
         self.wide[..p + 1].fill(0);
-        self.tags[..2 * p].fill(0);
+        self.tags[..p].fill(0);
     }
 }

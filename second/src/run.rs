@@ -175,7 +175,7 @@ impl Run {
         let (mut r, mut means) = (vec![0; p], vec![0; p]);
         let mut room = Room {
             wide: &mut vec![0; p + 1],
-            tags: &mut vec![0; 2 * p],
+            tags: &mut vec![0; p],
         };
         let answer = number(&campaign.response(lent, &mut r, &mut means, &mut room));
         let divisor = campaign.divisor();

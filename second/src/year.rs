@@ -110,12 +110,13 @@ fn ask(calls: &mut Calls) {
     calls.memory();
 }
 
-/// Every refusal that the visits do not bring, with the recording of visit 365 at hand.
+/// Every refusal that the visits do not bring, with the recording of visit 365 at hand, and the two calls that just enough room is lent to.
 pub fn be_refused(calls: &mut Calls) {
     refused_entries(calls);
     calls.withdraw(0);
     calls.withdraw(367);
     short_rooms(calls);
+    just_enough_room(calls);
     spoiled_sum(calls);
     refused_starts(calls);
     let mut too_loud = vec![0; calls.campaign.p()];
@@ -143,7 +144,7 @@ fn short_rooms(calls: &mut Calls) {
     let whole = Lengths::WHOLE;
     let short_wide = Lengths { wide: p, ..whole };
     let short_tags = Lengths {
-        tags: 2 * p - 1,
+        tags: p - 1,
         ..whole
     };
     calls.response(Lengths { r: p - 1, ..whole });
@@ -157,6 +158,13 @@ fn short_rooms(calls: &mut Calls) {
     for short in [short_wide, short_tags] {
         calls.summary(short);
     }
+}
+
+/// That these are accepted shows that each short room was refused for the one place it lacks.
+fn just_enough_room(calls: &mut Calls) {
+    let just_enough = Lengths::just_enough(calls.campaign.p());
+    calls.response(just_enough);
+    calls.summary(just_enough);
 }
 
 /// A record whose sums are not the totals does not hold together.

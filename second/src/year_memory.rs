@@ -1,4 +1,4 @@
-//! The year's memory, of which every call is lent more than it needs.
+//! The year's memory, which is more than any call needs.
 
 use crate::campaign::Lent;
 use crate::numbers::digest;
@@ -54,6 +54,15 @@ impl Lengths {
         wide: 600,
         tags: 1_100,
     };
+
+    pub fn just_enough(p: usize) -> Lengths {
+        Lengths {
+            r: p,
+            means: p,
+            wide: p + 1,
+            tags: p,
+        }
+    }
 }
 
 pub fn digest_of<T: Copy + Into<i64>>(values: &[T]) -> i64 {

@@ -60,7 +60,7 @@ fn summary(at: &(Campaign, Lent), wide: usize, tags: usize) -> Summary {
 fn response(at: &(Campaign, Lent), r: usize, means: usize, wide: usize) -> u8 {
     let mut room = Room {
         wide: &mut vec![0; wide],
-        tags: &mut [0; 14],
+        tags: &mut [0; 7],
     };
     number(
         &at.0
@@ -158,15 +158,15 @@ fn response_and_summary_refuse_in_order() {
     assert_eq!(response(at, 7, 7, 7), 6);
     assert_eq!(response(at, 7, 7, 8), 14);
     let short = Summary::Refused(Refusal::RoomTooShort);
-    assert_eq!([summary(at, 7, 14), summary(at, 8, 13)], [short, short]);
-    assert_eq!(summary(at, 8, 14), Summary::NothingStands);
+    assert_eq!([summary(at, 7, 7), summary(at, 8, 6)], [short, short]);
+    assert_eq!(summary(at, 8, 7), Summary::NothingStands);
     enter(at, 1, &KEPT);
     let levels = Levels {
         highest: 2.0,
         lowest: -1.0,
         at_peak: 2.0,
     };
-    assert_eq!(summary(at, 8, 14), Summary::Levels(levels));
+    assert_eq!(summary(at, 8, 7), Summary::Levels(levels));
 }
 
 #[test]
@@ -182,7 +182,7 @@ fn a_success_leaves_zeros_in_the_room_and_keeps_the_tails() {
     assert_eq!(r, [16, 0, -8, 0, 0, 0, 0, 5]);
     assert_eq!(means, [2, 0, -1, 0, 0, 0, 0, 5]);
     assert_eq!(wide, [0, 0, 0, 0, 0, 0, 0, 0, 5]);
-    assert_eq!(tags, [0, 0, 0, 0, 0, 0, 0, 0, 0, 0, 0, 0, 0, 0, 5]);
+    assert_eq!(tags, [0, 0, 0, 0, 0, 0, 0, 5, 5, 5, 5, 5, 5, 5, 5]);
 }
 
 #[test]
@@ -199,7 +199,7 @@ fn the_peak_is_the_first_of_equal_sizes() {
             lowest: -0.5,
             at_peak,
         };
-        assert_eq!(summary(at, 8, 14), Summary::Levels(levels));
+        assert_eq!(summary(at, 8, 7), Summary::Levels(levels));
     }
 }
 

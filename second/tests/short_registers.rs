@@ -21,7 +21,7 @@ fn answers(order: u32, taps: u32) -> [Result<usize, Refusal>; 6] {
     let samples = vec![1; p];
     let room = &mut Room {
         wide: &mut vec![0; p + 1],
-        tags: &mut vec![0; 2 * p],
+        tags: &mut vec![0; p],
     };
     [
         check_taps(order, taps),

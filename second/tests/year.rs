@@ -72,6 +72,7 @@ fn accepted_counts_total_366() {
     }
 }
 
+/// What is accepted with just enough room tells and writes what asking at that visit did.
 #[test]
 fn being_refused_changes_nothing() {
     for plan in PLANS {
@@ -83,11 +84,14 @@ fn being_refused_changes_nothing() {
         be_refused(&mut calls);
         assert_eq!(calls.campaign, before.campaign);
         assert_eq!(calls.memory, before.memory);
-        let refused = &calls.lines[before.lines.len()..];
-        let (memory, refused) = refused.split_last().unwrap();
+        let [_, response, summary, memory] = before.lines.last_chunk().unwrap();
+        let (last, told) = calls.lines[before.lines.len()..].split_last().unwrap();
+        let (accepted, refused): (Vec<_>, Vec<_>) =
+            told.iter().partition(|line| answer(line) == Some(0));
+        assert_eq!(accepted, [response, summary]);
         assert!(refused.iter().all(|line| answer(line) > Some(0)));
         assert!(memory.starts_with("memory "));
-        assert_eq!(before.lines.last(), Some(memory));
+        assert_eq!(last, memory);
     }
 }
 
@@ -97,7 +101,7 @@ fn each_campaign_ends_with_nothing_standing() {
         let p = period(plan.order);
         let zeros = |count, length| digest_with_tail(&vec![0; count], length);
         let store = zeros(plan.slots as usize * p, 24_600);
-        let (sums, wide, tags) = (zeros(p, 600), zeros(p + 1, 600), zeros(2 * p, 1_100));
+        let (sums, wide, tags) = (zeros(p, 600), zeros(p + 1, 600), zeros(p, 1_100));
         let lines = lines(plan);
         let [counts, response, summary, memory] = lines.last_chunk().unwrap();
         assert_eq!(words(counts)[3], "0");

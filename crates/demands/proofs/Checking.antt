@@ -18,11 +18,6 @@ use Rattle.campaign.specs.declared.Withdrawn.{Withdrawn}
 use Rattle.campaign.specs.declared.Verdict.the-variants as verdict
 use Rattle.history.specs.Run.{World, Call, start, enter, withdraw, counts, response, summary, after, answer}
 
--- in either of two cases
-pub either-0 : {A : Type 0} (number : A → ℕ) (b : Bool) (x y : A) → number x ≡ 0 → number y ≡ 0 → number (cond b x y) ≡ 0
-either-0 number true x y e g = e
-either-0 number false x y e g = g
-
 -- ---- an entry
 
 module _ {A : Type 0} (number : A → ℕ) (back : ℕ → A) (o p k : A) (told : (n : ℕ) → number (back n) ≡ n)

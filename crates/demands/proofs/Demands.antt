@@ -7,7 +7,7 @@
 -- `made w₀ cs d` is what the last accepted call naming day d made it, or unseen; `heard w₀ cs d` is the last recording accepted for it; `begun w₀ cs` is
 -- the record that the last accepted start made.
 use mathlib.Core.Path.{_≡_, refl, sym, ap, _∙_}
-use mathlib.Core.Logic.{_↔_}
+use mathlib.Core.Logic.{_↔_, _⊎_}
 use mathlib.Core.Bool.{Bool, true, cond, not, _&&_}
 use mathlib.Core.List.{List, [], _∷_, _++_}
 use Prim.Native.Nat.{ℕ, _+_, _-_, _*_, _%_, _^_, _≤_, _<_}
@@ -34,7 +34,8 @@ use Rattle.player.specs.declared.Tick.the-variants as tick
 use Rattle.player.specs.declared.Stepped.{Stepped}
 use Rattle.player.specs.declared.Played.{Played}
 use Rattle.response.specs.Response as formula
-use Rattle.response.specs.Calls.{recordingChecks, recordingOutcome}
+use Rattle.response.specs.Calls.{givenChecks, recordingChecks, recordingOutcome}
+use Rattle.response.proofs.Enough as of-recording
 use Rattle.prediction.specs.Calls.{predictionChecks, predictionOutcome, roomedChecks, roomedOutcome}
 use Rattle.rounding.specs.Rounding.{nearest}
 use Rattle.records.specs.Record.{unseen, standing, overloaded, dead, withdrawn, state, stands, daysIn, together, apart, fresh, filed}
@@ -47,7 +48,9 @@ use Rattle.campaign.specs.declared.Entered.{Entered}
 use Rattle.campaign.specs.declared.Withdrawn.{Withdrawn}
 use Rattle.campaign.specs.declared.Verdict.the-variants as verdict
 use Rattle.trend.specs.Calls.{countsOutcome, countsNumber, responseChecks, responseOutcome, summaryChecks, summaryOutcome, summaryNumber}
+use Rattle.trend.proofs.Enough as of-trend
 use Rattle.trend.specs.declared.Counts.the-variants as counts
+use Rattle.trend.specs.declared.Levels.{Levels}
 use Rattle.trend.specs.declared.Summary.{Summary}
 use Rattle.trend.specs.declared.Summary.the-variants as summary
 use Rattle.history.specs.Run.{World, Call, after, answer, run, underWay, begun, makes, made, heard, Elsewhere}
@@ -56,9 +59,10 @@ use Rattle.history.proofs.UnderWay.{from-start}
 use Rattle.history.proofs.EveryRun as every-run
 use Rattle.history.proofs.AsIf as as-if
 use Rattle.demands.specs.Buffers.{KeepsTail}
-use Rattle.sums.proofs.First.{answers-first, refused-same}
-use Rattle.demands.proofs.Checking.{either-0, entry-answers-first, entry-refused-same, refused-leaves}
+use Rattle.sums.proofs.First.{answers-first, refused-same, either-0}
+use Rattle.demands.proofs.Checking.{entry-answers-first, entry-refused-same, refused-leaves}
 use Rattle.demands.proofs.Tails.{sequence-tail, recording-tails, prediction-tail, prediction-in-room-tails, start-tails, enter-tails, withdraw-tails, response-tails, summary-tails}
+use Rattle.demands.proofs.Clearing.{RoomCleared, recording-clears, response-clears, summary-clears}
 use Rattle.demands.proofs.Measuring.{sequence-at, response-at, response-small, prediction-at, prediction-in-room-at}
 
 -- ---- 1. "Every public call ends, on all inputs, with an answer. It refuses for the causes listed in document 01, in the order given there, and for
@@ -119,7 +123,7 @@ pub record Refusals : Type 0 where
 pub record Tails : Type 0 where
   pub sequence : (N taps : ℕ) (out : List ℕ) → KeepsTail (P N) out (sequenceOutcome N taps out .1)
   pub recording : (N taps : ℕ) (y out room : List ℤ) (tags : List ℕ) → let o = recordingOutcome N taps y out room tags in
-      KeepsTail (P N) out (o .1) × KeepsTail (P N + 1) room (o .2) × KeepsTail (2 * P N) tags (o .3)
+      KeepsTail (P N) out (o .1) × KeepsTail (P N + 1) room (o .2) × KeepsTail (P N) tags (o .3)
   pub prediction : (N taps : ℕ) (h out : List ℤ) → KeepsTail (P N) out (predictionOutcome N taps h out .1)
   pub prediction-in-room : (N taps : ℕ) (h out room : List ℤ) → let o = roomedOutcome N taps h out room in
       KeepsTail (P N) out (o .1) × KeepsTail (P N + 1) room (o .2)
@@ -131,9 +135,9 @@ pub record Tails : Type 0 where
       KeepsTail (c .capacity * P (c .order)) store (o .1) × KeepsTail (P (c .order)) sums (o .2)
   pub response : (c : Campaign) (store sums r mean room : List ℤ) (tags : List ℕ) → let o = responseOutcome c store sums r mean room tags in
       KeepsTail (P (c .order)) r (o .1) × KeepsTail (P (c .order)) mean (o .2) × KeepsTail (P (c .order) + 1) room (o .3)
-      × KeepsTail (2 * P (c .order)) tags (o .4)
+      × KeepsTail (P (c .order)) tags (o .4)
   pub summary : (c : Campaign) (store sums room : List ℤ) (tags : List ℕ) → let o = summaryOutcome c store sums room tags in
-      KeepsTail (P (c .order) + 1) room (o .1) × KeepsTail (2 * P (c .order)) tags (o .2)
+      KeepsTail (P (c .order) + 1) room (o .1) × KeepsTail (P (c .order)) tags (o .2)
 
 pub checked : {A : Type 0} (order : List ℕ) (checks : List (ℕ × Bool)) (number : A → ℕ) (back : ℕ → A) (accepted : A)
     → numbers checks ≡ order → ((n : ℕ) → number (back n) ≡ n) → number accepted ≡ 0 → Checked order checks number back (outcome checks back accepted)
@@ -245,6 +249,50 @@ how-short =
           rw (start-tells c N taps C store sums) (period.how-short N taps (startChecks N taps C store sums) refl tt 0);
     }
 
+-- ---- Document 02: "Turning one recording, a response and a summary must work with P tags instead of 2P, and P+1 wide numbers as now. Show that every order
+-- gets by on it, and give 6 exactly below it. Tags beyond P stay untouched, where 01 had them zeroed."
+--
+-- Lent that much, and outputs of P, no order's call answers 6 (`-enough`). It is answered exactly where the checks before it pass and something lent is
+-- shorter (`-six`). Accepted, the call leaves zeros in the first P+1 wide numbers and the first P tags (`-clears`); what lies beyond is as it was,
+-- whatever the answer: `Tails` above.
+
+pub record Rooms : Type 0 where
+  pub recording-enough : (N taps : ℕ) (y out room : List ℤ) (tags : List ℕ) → P N ≤ length out → P N + 1 ≤ length room → P N ≤ length tags
+      → recordingOutcome N taps y out room tags .0 ≡ 6 → ⊥
+  pub recording-six : (N taps : ℕ) (y out room : List ℤ) (tags : List ℕ) → (recordingOutcome N taps y out room tags .0 ≡ 6)
+      ↔ ((first (givenChecks N taps y) ≡ 0) × ((length out < P N) ⊎ (length room < P N + 1) ⊎ (length tags < P N)))
+  pub recording-clears : (N taps : ℕ) (y out room : List ℤ) (tags : List ℕ) → let o = recordingOutcome N taps y out room tags in o .0 ≡ 0
+      → RoomCleared N (o .2) (o .3)
+  pub response-enough : (c : Campaign) (store sums r mean room : List ℤ) (tags : List ℕ) → let p = P (c .order) in
+      p ≤ length r → p ≤ length mean → p + 1 ≤ length room → p ≤ length tags → responseOutcome c store sums r mean room tags .0 ≡ 6 → ⊥
+  pub response-six : (c : Campaign) (store sums r mean room : List ℤ) (tags : List ℕ) → let p = P (c .order) in
+      (responseOutcome c store sums r mean room tags .0 ≡ 6)
+      ↔ ((first ((15, apart c store sums) ∷ []) ≡ 0) × ((length r < p) ⊎ (length mean < p) ⊎ (length room < p + 1) ⊎ (length tags < p)))
+  pub response-clears : (c : Campaign) (store sums r mean room : List ℤ) (tags : List ℕ) → let o = responseOutcome c store sums r mean room tags in o .0 ≡ 0
+      → RoomCleared (c .order) (o .3) (o .4)
+  pub summary-enough : (c : Campaign) (store sums room : List ℤ) (tags : List ℕ) → let p = P (c .order) in
+      p + 1 ≤ length room → p ≤ length tags → summaryNumber (summaryOutcome c store sums room tags .0) ≡ 6 → ⊥
+  pub summary-six : (c : Campaign) (store sums room : List ℤ) (tags : List ℕ) → let p = P (c .order) in
+      (summaryNumber (summaryOutcome c store sums room tags .0) ≡ 6)
+      ↔ ((first ((15, apart c store sums) ∷ []) ≡ 0) × ((length room < p + 1) ⊎ (length tags < p)))
+  -- where a day stands; where none does the room is left alone
+  pub summary-clears : (c : Campaign) (store sums room : List ℤ) (tags : List ℕ) (l : Levels) → let o = summaryOutcome c store sums room tags in
+      o .0 ≡ summary.Measured l → RoomCleared (c .order) (o .1) (o .2)
+
+pub half-the-tags : Rooms
+half-the-tags =
+    record {
+      recording-enough = of-recording.enough;
+      recording-six = of-recording.six-exactly;
+      recording-clears = recording-clears;
+      response-enough = of-trend.response-enough;
+      response-six = of-trend.response-six-exactly;
+      response-clears = response-clears;
+      summary-enough = of-trend.summary-enough;
+      summary-six = of-trend.summary-six-exactly;
+      summary-clears = summary-clears;
+    }
+
 -- ---- 3. "After any run of calls from a fresh campaign, refused ones included and its lent memory untouched between, each day's state is what the last
 -- accepted call naming that day made it, or unseen if there was none. The sums total, place by place, the last recordings accepted for exactly the days
 -- then standing. If at least one day stands, and each such recording is the circular convolution of a whole-number response with the sequence, the
@@ -261,7 +309,7 @@ pub record Said (w₀ : World) (cs : List Call) (w : World) : Type 0 where
       → ((d : ℕ) → 1 ≤ d → d ≤ 366 → made w₀ cs d ≡ standing → (j : ℕ) → j < P N
       → at (heard w₀ cs d) j ≡ sum (P N) (λ i. h d i *ℤ wave N (begun w₀ cs .taps) ((j + (P N - i)) % P N)))
       → (d : ℕ) → 1 ≤ d → d ≤ 366 → made w₀ cs d ≡ standing
-      → (r mean room : List ℤ) (tags : List ℕ) → P N ≤ length r → P N ≤ length mean → P N + 1 ≤ length room → 2 * P N ≤ length tags
+      → (r mean room : List ℤ) (tags : List ℕ) → P N ≤ length r → P N ≤ length mean → P N + 1 ≤ length room → P N ≤ length tags
       → let o = responseOutcome (w .campaign) (w .store) (w .sums) r mean room tags in
       (o .0 ≡ 0)
       × ((k : ℕ) → k < P N → at (o .1) k ≡ pos (P N + 1) *ℤ sum 366 (λ i. cond (eqb (made w₀ cs (i + 1)) standing) (h (i + 1) k) (pos 0)))
@@ -386,20 +434,24 @@ one-left =
       sums = negsuc 0 ∷ negsuc 0 ∷ pos 1 ∷ pos 9 ∷ [];
     }
 
--- a response with one place more than it needs in r
+-- a response with one place more than it needs in r, and twice the tags
 abbrev pub asked : World → ℕ × List ℤ × List ℤ × List ℤ × List ℕ
 asked w = responseOutcome (w .campaign) (w .store) (w .sums) (replicate 4 (pos 9)) (replicate 3 (pos 9)) (replicate 4 (pos 9)) (replicate 6 9)
+
+-- its tags after it
+abbrev pub half-zeros : List ℕ
+half-zeros = 0 ∷ 0 ∷ 0 ∷ 9 ∷ 9 ∷ 9 ∷ []
 
 pub record Witness : Type 0 where
   pub started : startOutcome (lent .campaign) 2 3 2 (lent .store) (lent .sums) .0 .answer .number ≡ 0
   pub begins : run lent (call.start 2 3 2 ∷ []) ≡ began
   pub first-night : (answer began (call.enter 1 night-1) ≡ 0) × (run lent (call.enter 1 night-1 ∷ call.start 2 3 2 ∷ []) ≡ one-night)
   pub second-night : (answer one-night (call.enter 2 night-2) ≡ 0) × (run lent nights ≡ two-nights)
-  pub both : asked two-nights ≡ (0, pos 12 ∷ pos 0 ∷ negsuc 3 ∷ pos 9 ∷ [], pos 2 ∷ pos 0 ∷ negsuc 0 ∷ [], replicate 4 (pos 0), replicate 6 0)
+  pub both : asked two-nights ≡ (0, pos 12 ∷ pos 0 ∷ negsuc 3 ∷ pos 9 ∷ [], pos 2 ∷ pos 0 ∷ negsuc 0 ∷ [], replicate 4 (pos 0), half-zeros)
   pub withdrawal : (answer two-nights (call.withdraw 1) ≡ 0) × (run lent (call.withdraw 1 ∷ nights) ≡ one-left)
   pub days : (made lent (call.withdraw 1 ∷ nights) 1 ≡ withdrawn) × (made lent (call.withdraw 1 ∷ nights) 2 ≡ standing)
       × (made lent (call.withdraw 1 ∷ nights) 3 ≡ unseen)
-  pub second : asked one-left ≡ (0, pos 4 ∷ pos 0 ∷ pos 0 ∷ pos 9 ∷ [], pos 1 ∷ pos 0 ∷ pos 0 ∷ [], replicate 4 (pos 0), replicate 6 0)
+  pub second : asked one-left ≡ (0, pos 4 ∷ pos 0 ∷ pos 0 ∷ pos 9 ∷ [], pos 1 ∷ pos 0 ∷ pos 0 ∷ [], replicate 4 (pos 0), half-zeros)
   -- a start refused with 4 tells after how many steps the register returns
   pub short-start : startOutcome (lent .campaign) 4 15 2 (lent .store) (lent .sums)
       ≡ (record { answer = record { number = 4; period = 5 }; campaign = lent .campaign }, lent .store, lent .sums)

@@ -2,24 +2,29 @@
 -- beyond the lengths that it needs. At a start a short table is among the causes of 6; every other door of a campaign looks at the tables first.
 -- Assumes nothing.
 use mathlib.Core.Path.{_≡_, refl, sym, ap, _∙_}
+use mathlib.Core.Logic.{_↔_, _⊎_}
 use mathlib.Core.Bool.{Bool, true, false}
 use mathlib.Core.List.{List, [], _∷_}
-use Prim.Native.Nat.{ℕ, zero, suc, _+_, _*_, _≤_}
+use Prim.Native.Nat.{ℕ, zero, suc, _+_, _*_, _≤_, _<_}
 use native.Mathlib.Omega.{arith}
+use lib.Dec.{eqb}
 use lib.IntN.{ℤ}
 use lib.ListN.{length, length-replicate}
 use Rattle.sums.specs.Lists.{put}
 use Rattle.sums.specs.Refusals.{first, numbers, answered, outcome}
+use Rattle.sums.proofs.First.{exactly}
 use Rattle.register.specs.Register.{P}
 use Rattle.register.specs.Calls.{orderOut, told, shapeChecks}
 use Rattle.register.proofs.HowShort.{Tells, how-short-by}
 use Rattle.player.specs.Calls.{stepChecks}
 use Rattle.player.specs.declared.Player.{Player}
-use Rattle.samples.specs.Samples.{clearedWide}
-use Rattle.records.specs.Record.{apart, fresh}
+use Rattle.samples.specs.Samples.{workShort, clearedWide}
+use Rattle.samples.proofs.Rooms.{work-short}
+use Rattle.records.specs.Record.{standing, daysIn, apart, fresh}
 use Rattle.records.specs.declared.Campaign.{Campaign}
 use Rattle.campaign.specs.Calls.{withdrawChecks}
-use Rattle.trend.specs.Calls.{responseChecks, summaryChecks}
+use Rattle.trend.specs.Calls.{answerShort, responseChecks, summaryChecks}
+use Rattle.trend.proofs.Enough.{answer-short}
 use Rattle.trend.specs.declared.Tally.{Tally}
 use Rattle.trend.specs.declared.Levels.{Levels}
 use Rattle.meter.specs.Players.{defaultOut, defaultDoor, newOut, newDoor, steppedOut, stepDoor, playedOut, playDoor}
@@ -70,9 +75,9 @@ pub record DoorTails : Type 0 where
       KeepsTail 366 days (o .1) × KeepsTail 64 slots (o .2) × KeepsTail (C * P N) store (o .3) × KeepsTail (P N) sums (o .4)
   pub response : (N taps C : ℕ) (days slots : List ℕ) (store sums r mean room : List ℤ) (tags : List ℕ)
       → let o = responseDoor N taps C days slots store sums r mean room tags in
-      KeepsTail (P N) r (o .1) × KeepsTail (P N) mean (o .2) × KeepsTail (P N + 1) room (o .3) × KeepsTail (2 * P N) tags (o .4)
+      KeepsTail (P N) r (o .1) × KeepsTail (P N) mean (o .2) × KeepsTail (P N + 1) room (o .3) × KeepsTail (P N) tags (o .4)
   pub summary : (N taps C : ℕ) (days slots : List ℕ) (store sums room : List ℤ) (tags : List ℕ) (stood : ℕ) (was : Levels)
-      → let o = summaryDoor N taps C days slots store sums room tags stood was in KeepsTail (P N + 1) room (o .1) × KeepsTail (2 * P N) tags (o .2)
+      → let o = summaryDoor N taps C days slots store sums room tags stood was in KeepsTail (P N + 1) room (o .1) × KeepsTail (P N) tags (o .2)
 
 -- ---- the checks
 
@@ -184,11 +189,11 @@ tails =
           (λ l. all-put N taps C days slots store sums l _ (withdraw-handed (recordOf N taps C days slots) store sums d) (withdraw-tails (recordOf N taps C days slots) store sums d));
       response = λ N taps C days slots store sums r mean room tags.
           behind-either days slots (λ n. (n, r, mean, room, tags)) _
-          (λ (o : ℕ × List ℤ × List ℤ × List ℤ × List ℕ). KeepsTail (P N) r (o .1) × KeepsTail (P N) mean (o .2) × KeepsTail (P N + 1) room (o .3) × KeepsTail (2 * P N) tags (o .4))
+          (λ (o : ℕ × List ℤ × List ℤ × List ℤ × List ℕ). KeepsTail (P N) r (o .1) × KeepsTail (P N) mean (o .2) × KeepsTail (P N + 1) room (o .3) × KeepsTail (P N) tags (o .4))
           (same refl, same refl, same refl, same refl) (λ _. response-tails (recordOf N taps C days slots) store sums r mean room tags);
       summary = λ N taps C days slots store sums room tags stood was.
           behind-either days slots (λ n. (n, room, tags, stood, was)) _
-          (λ (o : ℕ × List ℤ × List ℕ × ℕ × Levels). KeepsTail (P N + 1) room (o .1) × KeepsTail (2 * P N) tags (o .2))
+          (λ (o : ℕ × List ℤ × List ℕ × ℕ × Levels). KeepsTail (P N + 1) room (o .1) × KeepsTail (P N) tags (o .2))
           (same refl, same refl) (λ _. summary-tails (recordOf N taps C days slots) store sums room tags);
     }
 
@@ -201,3 +206,27 @@ pub start-how-short : (N taps C was : ℕ) (days slots : List ℕ) (store sums :
 unfolding startDoor
 start-how-short N taps C was days slots store sums =
     how-short-by N taps (startDoorChecks N taps C days slots store sums) refl (λ (o : ℕ × List ℕ × List ℕ × List ℤ × List ℤ). o .0) _ _ (λ n. refl) refl refl tt was
+
+-- 6 exactly where the tables are long enough, the record holds together, and something lent is shorter than it needs; of `meter_recording` `Rooms` says it
+pub record DoorRooms : Type 0 where
+  pub response : (N taps C : ℕ) (days slots : List ℕ) (store sums r mean room : List ℤ) (tags : List ℕ)
+      → (responseDoor N taps C days slots store sums r mean room tags .0 ≡ 6)
+      ↔ ((first ((15, tablesShort days slots) ∷ (15, apart (recordOf N taps C days slots) store sums) ∷ []) ≡ 0)
+      × ((length r < P N) ⊎ (length mean < P N) ⊎ (length room < P N + 1) ⊎ (length tags < P N)))
+  pub summary : (N taps C : ℕ) (days slots : List ℕ) (store sums room : List ℤ) (tags : List ℕ) (stood : ℕ) (was : Levels)
+      → (summaryDoor N taps C days slots store sums room tags stood was .0 ≡ 6)
+      ↔ ((first ((15, tablesShort days slots) ∷ (15, apart (recordOf N taps C days slots) store sums) ∷ []) ≡ 0)
+      × ((length room < P N + 1) ⊎ (length tags < P N)))
+
+pub door-six : DoorRooms
+door-six =
+    record {
+      response = λ N taps C days slots store sums r mean room tags.
+          let c = recordOf N taps C days slots in
+          exactly _ 6 ((15, tablesShort days slots) ∷ (15, apart c store sums) ∷ []) (answerShort (P N) (length r) (length mean) (length room) (length tags))
+          ((14, eqb (daysIn c standing) 0) ∷ []) (refusals .response N taps C days slots store sums r mean room tags .answer) tt tt tt
+          (answer-short (P N) (length r) (length mean) (length room) (length tags));
+      summary = λ N taps C days slots store sums room tags stood was.
+          exactly _ 6 ((15, tablesShort days slots) ∷ (15, apart (recordOf N taps C days slots) store sums) ∷ []) (workShort (P N) (length room) (length tags)) []
+          (refusals .summary N taps C days slots store sums room tags stood was .answer) tt tt tt (work-short (P N) (length room) (length tags));
+    }

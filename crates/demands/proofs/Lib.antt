@@ -2,6 +2,7 @@
 mod Checking
 mod Tails
 mod Measuring
+pub mod Clearing
 mod Handing
 pub mod Demands
 pub mod DoorCalls

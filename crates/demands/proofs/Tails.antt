@@ -76,7 +76,7 @@ prediction-in-room-tails N taps h out room =
 
 module _ (N taps : ℕ) (y out room : List ℤ) (tags : List ℕ) where
   abbrev HeardTails : ℕ × List ℤ × List ℤ × List ℕ → Type 0
-  HeardTails o = KeepsTail (P N) out (o .1) × KeepsTail (P N + 1) room (o .2) × KeepsTail (2 * P N) tags (o .3)
+  HeardTails o = KeepsTail (P N) out (o .1) × KeepsTail (P N + 1) room (o .2) × KeepsTail (P N) tags (o .3)
 
   pub recording-tails : HeardTails (recordingOutcome N taps y out room tags)
   unfolding recordingOutcome
@@ -88,7 +88,7 @@ module _ (c : Campaign) (store sums r mean room : List ℤ) (tags : List ℕ) wh
   abbrev AnsweredTails : ℕ × List ℤ × List ℤ × List ℤ × List ℕ → Type 0
   AnsweredTails o =
       KeepsTail (P (c .order)) r (o .1) × KeepsTail (P (c .order)) mean (o .2) × KeepsTail (P (c .order) + 1) room (o .3)
-      × KeepsTail (2 * P (c .order)) tags (o .4)
+      × KeepsTail (P (c .order)) tags (o .4)
 
   pub response-tails : AnsweredTails (responseOutcome c store sums r mean room tags)
   unfolding responseOutcome
@@ -98,7 +98,7 @@ module _ (c : Campaign) (store sums r mean room : List ℤ) (tags : List ℕ) wh
 
 module _ (c : Campaign) (store sums room : List ℤ) (tags : List ℕ) where
   abbrev SummedTails : Summary × List ℤ × List ℕ → Type 0
-  SummedTails o = KeepsTail (P (c .order) + 1) room (o .1) × KeepsTail (2 * P (c .order)) tags (o .2)
+  SummedTails o = KeepsTail (P (c .order) + 1) room (o .1) × KeepsTail (P (c .order)) tags (o .2)
 
   pub summary-tails : SummedTails (summaryOutcome c store sums room tags)
   unfolding summaryOutcome

@@ -1,10 +1,10 @@
 -- Where the record holds together no call answers 15, and a response with room enough and a day standing is accepted. Assumes nothing.
 use mathlib.Core.Path.{_≡_, sym, ap, _∙_}
-use mathlib.Core.Bool.{Bool, true, false, cond, not, _||_}
+use mathlib.Core.Bool.{Bool, true, false, cond, not}
 use mathlib.Core.List.{List, [], _∷_}
 use Prim.Native.Nat.{ℕ, _+_, _*_, _≤_}
 use native.Mathlib.Omega.{arith}
-use borrow.Author.Tests.{le-ltb, ne-eqb}
+use borrow.Author.Tests.{ne-eqb}
 use lib.Dec.{T, eqb, ltb}
 use lib.IntN.{ℤ}
 use lib.ListN.{length}
@@ -17,6 +17,7 @@ use Rattle.samples.specs.Samples.{clearedWide, clearedTags}
 use Rattle.records.specs.Record.{standing, overloaded, dead, daysIn, together, fresh, marked}
 use Rattle.campaign.specs.Calls.{startChecks, enterChecks, withdrawChecks, railPlace, still, entered, keptOutcome, judgedOutcome, withdrawnOutcome, startOutcome, enterOutcome, withdrawOutcome, verdictNumber}
 use Rattle.trend.specs.Calls.{responseChecks, summaryChecks, tally, countsOutcome, responseOutcome, summaryOutcome, worked, meanAt, levelsOf, divisor, countsNumber, summaryNumber}
+use Rattle.trend.proofs.Enough.{answer-enough}
 use Rattle.history.specs.Run.{World, Call, start, enter, withdraw, counts, response, summary, answer}
 use Rattle.records.specs.declared.Campaign.{Campaign}
 use Rattle.campaign.specs.declared.Started.{Started}
@@ -35,14 +36,14 @@ responded c sums r mean room tags = (
   put (table (P (c .order)) (worked c sums)) r,
   put (table (P (c .order)) (meanAt c sums)) mean,
   clearedWide (P (c .order) + 1) room,
-  clearedTags (2 * P (c .order)) tags,
+  clearedTags (P (c .order)) tags,
 )
 
 abbrev measured : Campaign → List ℤ → List ℤ → List ℕ → Summary × List ℤ × List ℕ
 measured c sums room tags = (
   summed.Measured (levelsOf (P (c .order)) (worked c sums) (divisor c)),
   clearedWide (P (c .order) + 1) room,
-  clearedTags (2 * P (c .order)) tags,
+  clearedTags (P (c .order)) tags,
 )
 
 -- the first check is passed, and no other has the number 15
@@ -119,7 +120,7 @@ pub record RoomFor (N : ℕ) (r mean room : List ℤ) (tags : List ℕ) : Type 0
   pub r-long : P N ≤ length r
   pub mean-long : P N ≤ length mean
   pub room-long : P N + 1 ≤ length room
-  pub tags-long : 2 * P N ≤ length tags
+  pub tags-long : P N ≤ length tags
 
 pub answers : (c : Campaign) (store sums r mean room : List ℤ) (tags : List ℕ) → together c store sums ≡ true → RoomFor (c .order) r mean room tags
     → (daysIn c standing ≡ 0 → ⊥) → responseOutcome c store sums r mean room tags ≡ responded c sums r mean room tags
@@ -128,11 +129,7 @@ answers c store sums r mean room tags t long n =
     rw (accepts (responseChecks c store sums r mean room tags) (
       ap not t,
       (
-        room-enough,
+        answer-enough (P (c .order)) (length r) (length mean) (length room) (length tags) (long .r-long) (long .mean-long) (long .room-long) (long .tags-long),
         (ne-eqb (daysIn c standing) 0 n, tt),
       ),
     ))
-  where
-    room-enough : ltb (length r) (P (c .order)) || ltb (length mean) (P (c .order)) || (ltb (length room) (P (c .order) + 1) || ltb (length tags) (2 * P (c .order))) ≡ false
-    room-enough =
-        simp (le-ltb (length r) (P (c .order)) (long .r-long), le-ltb (length mean) (P (c .order)) (long .mean-long), le-ltb (length room) (P (c .order) + 1) (long .room-long), le-ltb (length tags) (2 * P (c .order)) (long .tags-long))

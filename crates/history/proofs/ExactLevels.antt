@@ -4,9 +4,9 @@
 use mathlib.Core.Path.{_≡_, ap, subst}
 use mathlib.Core.Bool.{Bool, true, false, cond, not}
 use mathlib.Core.List.{List}
-use Prim.Native.Nat.{ℕ, _+_, _*_, _^_, _≤_}
+use Prim.Native.Nat.{ℕ, _+_, _^_, _≤_}
 use native.Mathlib.Omega.{arith}
-use borrow.Author.Tests.{le-ltb, ne-eqb}
+use borrow.Author.Tests.{ne-eqb}
 use lib.Dec.{eqb}
 use lib.Ieee.{Float}
 use lib.Ieee.Exact.{HasValue}
@@ -17,6 +17,7 @@ use Rattle.sums.specs.Refusals.{answered}
 use Rattle.sums.proofs.First.{accepts}
 use Rattle.register.specs.Register.{P}
 use Rattle.samples.specs.Samples.{workShort, clearedWide, clearedTags}
+use Rattle.samples.proofs.Rooms.{work-enough}
 use Rattle.records.specs.Record.{standing, daysIn, together}
 use Rattle.trend.specs.Calls.{worked, divisor, extremesOf, levelsOf, summaryChecks, summaryOutcome}
 use Rattle.records.specs.declared.Campaign.{Campaign}
@@ -43,7 +44,7 @@ abbrev levels : Campaign → List ℤ → Levels
 levels c sums = levelsOf (P (c .order)) (worked c sums) (divisor c)
 
 abbrev measured : Campaign → List ℤ → List ℤ → List ℕ → Summary × List ℤ × List ℕ
-measured c sums room tags = (Measured (levels c sums), clearedWide (P (c .order) + 1) room, clearedTags (2 * P (c .order)) tags)
+measured c sums room tags = (Measured (levels c sums), clearedWide (P (c .order) + 1) room, clearedTags (P (c .order)) tags)
 
 module _ (c : Campaign) (store sums room : List ℤ) (tags : List ℕ) (h : together c store sums ≡ true) where
   -- a summary carries no other levels than these
@@ -64,11 +65,11 @@ module _ (c : Campaign) (store sums room : List ℤ) (tags : List ℕ) (h : toge
         let level-at = levels-exact c store sums (holds-together c store sums .0 h) m e in
         subst (Exact c sums) (carried l q) (record { highest = level-at _; lowest = level-at _; peak = level-at _ })
 
-    pub carries-levels : P (c .order) + 1 ≤ length room → 2 * P (c .order) ≤ length tags → summaryOutcome c store sums room tags .0 ≡ Measured (levels c sums)
+    pub carries-levels : P (c .order) + 1 ≤ length room → P (c .order) ≤ length tags → summaryOutcome c store sums room tags .0 ≡ Measured (levels c sums)
     unfolding summaryOutcome
     carries-levels long wide =
         rw (
-          accepts (summaryChecks c store sums room tags) (ap not h, (simp (le-ltb (length room) (P (c .order) + 1) long, le-ltb (length tags) (2 * P (c .order)) wide), tt)),
+          accepts (summaryChecks c store sums room tags) (ap not h, (work-enough (P (c .order)) (length room) (length tags) long wide, tt)),
           ne-eqb (daysIn c standing) 0 (λ z. omega (arith, pow-pos m)),
         )
 

@@ -113,7 +113,7 @@ abbrev day-2 : List ℤ
 day-2 = replicate 7 (pos 5)
 
 abbrev asked : World → ℕ × List ℤ × List ℤ × List ℤ × List ℕ
-asked w = responseOutcome (w .campaign) (w .store) (w .sums) (replicate 7 (pos 9)) (replicate 7 (pos 9)) (replicate 8 (pos 9)) (replicate 14 9)
+asked w = responseOutcome (w .campaign) (w .store) (w .sums) (replicate 7 (pos 9)) (replicate 7 (pos 9)) (replicate 8 (pos 9)) (replicate 7 9)
 
 pub record LogExample : Type 0 where
   pub kept : verdict (of 2) 1 day-1 ≡ Kept 0
@@ -124,11 +124,11 @@ pub record LogExample : Type 0 where
         pos 16 ∷ pos 0 ∷ negsuc 7 ∷ pos 0 ∷ pos 0 ∷ pos 0 ∷ pos 0 ∷ [],
         pos 2 ∷ pos 0 ∷ negsuc 0 ∷ pos 0 ∷ pos 0 ∷ pos 0 ∷ pos 0 ∷ [],
         replicate 8 (pos 0),
-        replicate 14 0,
+        replicate 7 0,
       )
   pub withdrawal : answer (run (of 2) (enter 2 day-2 ∷ enter 1 day-1 ∷ [])) (withdraw 1) ≡ 0
   pub nothing : asked (run (of 2) (withdraw 1 ∷ enter 2 day-2 ∷ enter 1 day-1 ∷ []))
-      ≡ (14, replicate 7 (pos 9), replicate 7 (pos 9), replicate 8 (pos 9), replicate 14 9)
+      ≡ (14, replicate 7 (pos 9), replicate 7 (pos 9), replicate 8 (pos 9), replicate 7 9)
 
 pub log-example : LogExample
 unfolding run enterOutcome withdrawOutcome responseOutcome together tapsAnswer period seek some every many total sum sign table put putAt nearest formula.response formula.correlation wave bit window step dot ones

@@ -136,11 +136,11 @@ pub record Campaigns : Type 0 where
   pub withdraw-10-13 : withdrew zeros 0 ≡ 10
   pub response : (c : Campaign) (store sums r mean room : List ℤ) (tags : List ℕ)
       → numbers (responseChecks c store sums r mean room tags) ≡ 15 ∷ 6 ∷ 14 ∷ []
-  pub response-15-6 : responded quiet 2 3 4 6 ≡ 15
-  pub response-6-14 : (responded zeros 2 3 4 6 ≡ 6) × (responded zeros 3 2 4 6 ≡ 6) × (responded zeros 3 3 3 6 ≡ 6) × (responded zeros 3 3 4 5 ≡ 6)
+  pub response-15-6 : responded quiet 2 3 4 3 ≡ 15
+  pub response-6-14 : (responded zeros 2 3 4 3 ≡ 6) × (responded zeros 3 2 4 3 ≡ 6) × (responded zeros 3 3 3 3 ≡ 6) × (responded zeros 3 3 4 2 ≡ 6)
   pub summary : (c : Campaign) (store sums room : List ℤ) (tags : List ℕ) → numbers (summaryChecks c store sums room tags) ≡ 15 ∷ 6 ∷ []
-  pub summary-15-6 : summed quiet 3 6 ≡ 15
-  pub summary-6-nothing : (summed zeros 3 6 ≡ 6) × (summed zeros 4 5 ≡ 6) × (summed zeros 4 6 ≡ 0)
+  pub summary-15-6 : summed quiet 3 3 ≡ 15
+  pub summary-6-nothing : (summed zeros 3 3 ≡ 6) × (summed zeros 4 2 ≡ 6) × (summed zeros 4 3 ≡ 0)
 
 pub campaigns : Campaigns
 unfolding startOutcome enterOutcome withdrawOutcome responseOutcome summaryOutcome together tapsAnswer period seek some every many total sum table put putAt window step dot ones

@@ -32,7 +32,7 @@ abbrev pub zeros : ℕ → List ℤ
 zeros n = replicate n (pos 0)
 
 abbrev pub firstMemory : Memory
-firstMemory = memory (zeros 4088) (zeros 511) (zeros 511) (zeros 511) (zeros 511) (zeros 512) (replicate 1022 0)
+firstMemory = memory (zeros 4088) (zeros 511) (zeros 511) (zeros 511) (zeros 511) (zeros 512) (replicate 511 0)
 
 abbrev pub firstPlace : Place
 firstPlace = record { book = unbegunBook; memory = firstMemory; offset = 0; going = true }

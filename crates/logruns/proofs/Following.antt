@@ -3,7 +3,7 @@
 use mathlib.Core.Path.{_≡_, refl, sym, ap, subst, _∙_}
 use mathlib.Core.Bool.{Bool, true, false, cond}
 use mathlib.Core.List.{List, [], _∷_, _++_}
-use Prim.Native.Nat.{ℕ, zero, suc, _+_, _*_, _≤_}
+use Prim.Native.Nat.{ℕ, zero, suc, _+_, _≤_}
 use native.Mathlib.Omega.{arith}
 use borrow.Author.Tests.{ltb-false}
 use lib.Dec.{ltb}
@@ -72,7 +72,7 @@ first-room =
       r-long = omega (arith, length-replicate {A = ℤ} 511 (pos 0));
       mean-long = omega (arith, length-replicate {A = ℤ} 511 (pos 0));
       room-long = omega (arith, length-replicate {A = ℤ} 512 (pos 0));
-      tags-long = omega (arith, length-replicate {A = ℕ} 1022 0);
+      tags-long = omega (arith, length-replicate {A = ℕ} 511 0);
     }
 
 abbrev began : ℕ → ℕ → ℕ → ℕ → Applied × Memory
@@ -118,7 +118,7 @@ asked-room c store sums r mean room tags h l =
       r-long = long-put (P (c .order)) 511 (worked c sums) r p (l .r-long);
       mean-long = long-put (P (c .order)) 511 (meanAt c sums) mean p (l .mean-long);
       room-long = long-put (P (c .order) + 1) 512 (λ _. pos 0) room (omega arith) (l .room-long);
-      tags-long = long-put (2 * P (c .order)) 1022 (λ _. 0) tags (omega arith) (l .tags-long);
+      tags-long = long-put (P (c .order)) 511 (λ _. 0) tags p (l .tags-long);
     })
 
 module _ {calls : List Call} {c : Campaign} {m : Memory} (r : Running calls c m) where

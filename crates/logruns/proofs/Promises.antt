@@ -1,11 +1,11 @@
 -- What every log is promised: no line of it says 15 or 6, a start prints its answer and after 4 how short the period is, and what a response prints is
 -- what the history of its calls says, the third demand. For every input, and after any number of turns. Assumes nothing.
 use mathlib.Core.Path.{_≡_, refl, sym, ap, subst, _∙_}
-use mathlib.Core.Bool.{Bool, true, false, cond, not, _||_}
+use mathlib.Core.Bool.{Bool, true, false, cond}
 use mathlib.Core.List.{List, [], _∷_, _++_, append-nil}
-use Prim.Native.Nat.{ℕ, suc, _+_, _*_, _≤_, _<_}
+use Prim.Native.Nat.{ℕ, suc, _≤_, _<_}
 use native.Mathlib.Omega.{arith}
-use borrow.Author.Tests.{le-ltb, le-leb}
+use borrow.Author.Tests.{le-leb}
 use lib.Dec.{eqb, ltb}
 use lib.IntN.{ℤ, pos, _*ℤ_}
 use lib.ListN.{length, take, length-replicate}
@@ -27,10 +27,11 @@ use Rattle.campaign.specs.Calls.{enterOutcome, withdrawOutcome, verdictNumber}
 use Rattle.campaign.specs.declared.Entered.{Entered}
 use Rattle.campaign.specs.declared.Withdrawn.{Withdrawn}
 use Rattle.campaign.specs.declared.Verdict.the-variants as verdict
-use Rattle.trend.specs.Calls.{responseChecks, countsOutcome, responseOutcome}
+use Rattle.trend.specs.Calls.{countsOutcome, responseOutcome}
+use Rattle.trend.proofs.Enough.{response-enough}
 use Rattle.trend.specs.declared.Tally.{Tally}
 use Rattle.history.specs.Run.{World, Call, enter, withdraw, response, answer, begun, made, heard}
-use Rattle.history.proofs.Answers.{RoomFor, responded}
+use Rattle.history.proofs.Answers.{RoomFor}
 use Rattle.history.proofs.EveryRun as every
 use Rattle.log.specs.declared.Phase.{Phase}
 use Rattle.log.specs.declared.Phase.the-variants as phase
@@ -100,37 +101,10 @@ module _ {calls : List Call} {c : Campaign} {m : Memory} (r : Running calls c m)
       (λ n _ h g. not-first 6 (withdrawChecks c (m .store) (m .sums) d) tt (h ∙ g)) (λ _ g. omega arith)
 
   response-no-six : answer now (response (m .r) (m .mean) (m .room) (m .tags)) ≡ 6 → ⊥
-  unfolding responseOutcome
   response-no-six =
-      outcome-cases {A = ℕ × List ℤ × List ℤ × List ℤ × List ℕ} (responseChecks c (m .store) (m .sums) (m .r) (m .mean) (m .room) (m .tags)) tt
-      (λ n. (n, m .r, m .mean, m .room, m .tags)) (responded c (m .sums) (m .r) (m .mean) (m .room) (m .tags)) (λ o. o .0 ≡ 6 → ⊥)
-      (λ n _ h g. enough (not (together c (m .store) (m .sums))) (eqb (daysIn c standing) 0) (h ∙ g)) (λ _ g. omega arith)
-    where
-      p : P (c .order) ≤ 511
-      p = omega (arith, pow-mono (order-few r))
-
-      roomy : ltb (length (m .r)) (P (c .order)) || ltb (length (m .mean)) (P (c .order))
-          || (ltb (length (m .room)) (P (c .order) + 1) || ltb (length (m .tags)) (2 * P (c .order))) ≡ false
-      roomy =
-          simp (
-            le-ltb (length (m .r)) (P (c .order)) (omega (arith, p, r .room .r-long)),
-            le-ltb (length (m .mean)) (P (c .order)) (omega (arith, p, r .room .mean-long)),
-            le-ltb (length (m .room)) (P (c .order) + 1) (omega (arith, p, r .room .room-long)),
-            le-ltb (length (m .tags)) (2 * P (c .order)) (omega (arith, p, r .room .tags-long)),
-          )
-
-      go : (a b : Bool) → first ((15, a) ∷ (6, false) ∷ (14, b) ∷ []) ≡ 6 → ⊥
-      go true b h = omega arith
-      go false true h = omega arith
-      go false false h = omega arith
-
-      enough : (a b : Bool)
-          → first ((15, a) ∷ (
-            6,
-            ltb (length (m .r)) (P (c .order)) || ltb (length (m .mean)) (P (c .order))
-                || (ltb (length (m .room)) (P (c .order) + 1) || ltb (length (m .tags)) (2 * P (c .order))),
-          ) ∷ (14, b) ∷ []) ≡ 6 → ⊥
-      enough a b h = go a b (sym (ap (λ x. first ((15, a) ∷ (6, x) ∷ (14, b) ∷ [])) roomy) ∙ h)
+      let p : P (c .order) ≤ 511 = omega (arith, pow-mono (order-few r)) in
+      response-enough c (m .store) (m .sums) (m .r) (m .mean) (m .room) (m .tags) (omega (arith, p, r .room .r-long)) (omega (arith, p, r .room .mean-long))
+      (omega (arith, p, r .room .room-long)) (omega (arith, p, r .room .tags-long))
 
 -- ---- no line says 15 or 6
 

@@ -33,12 +33,10 @@ pub enum Word {
     RefusedStart,
 }
 
-// The period of the largest order that the program takes, its working room and tags, and the store of the most slots.
+// The period of the largest order that the program takes, its wide room, and the store of the most slots.
 const PERIOD: usize = 511;
 
 const ROOM: usize = 512;
-
-const TAGS: usize = 1022;
 
 const STORE: usize = 4088;
 
@@ -52,7 +50,7 @@ fn main() {
     let mut r: [i64; PERIOD] = [0; PERIOD];
     let mut mean: [i32; PERIOD] = [0; PERIOD];
     let mut room: [i64; ROOM] = [0; ROOM];
-    let mut tags: [u16; TAGS] = [0; TAGS];
+    let mut tags: [u16; PERIOD] = [0; PERIOD];
     let p = run(
         &mut bytes,
         &mut out,

@@ -78,7 +78,7 @@ fn order_lines(
     recovered_line(order, h);
 }
 
-// The same in the first P places of longer buffers.
+// The same in just as much of longer buffers as the order needs.
 fn lines_within(
     order: u32,
     h: &mut [i32],
@@ -87,21 +87,24 @@ fn lines_within(
     room: &mut [i64],
     tags: &mut [u16],
 )
-    requires { ⌜ (order ≤ 16) × (length (now h) ≡ 65535) × (length (now y) ≡ 65535) × (length (now out) ≡ 65535) ⌝ }
+    requires { ⌜ (order ≤ 16) × (length (now h) ≡ 65535) × (length (now y) ≡ 65535) × (length (now out) ≡ 65535)
+        × (length (now room) ≡ 65536) × (length (now tags) ≡ 65535) ⌝ }
 {
     let period = full_period(order) as usize;
+    let wide = period + 1;
     order_lines(
         order,
         &mut h[..period],
         &mut y[..period],
         &mut out[..period],
-        room,
-        tags,
+        &mut room[..wide],
+        &mut tags[..period],
     );
 }
 
 fn all_orders(h: &mut [i32], y: &mut [i32], out: &mut [i64], room: &mut [i64], tags: &mut [u16])
-    requires { ⌜ (length (now h) ≡ 65535) × (length (now y) ≡ 65535) × (length (now out) ≡ 65535) ⌝ }
+    requires { ⌜ (length (now h) ≡ 65535) × (length (now y) ≡ 65535) × (length (now out) ≡ 65535)
+        × (length (now room) ≡ 65536) × (length (now tags) ≡ 65535) ⌝ }
 {
     let mut order = 2;
     while order < 17 {
@@ -131,7 +134,7 @@ pub fn large_lines() {
     let mut y: [i32; 65535] = [0; 65535];
     let mut out: [i64; 65535] = [0; 65535];
     let mut room: [i64; 65536] = [0; 65536];
-    let mut tags: [u16; 131070] = [0; 131070];
+    let mut tags: [u16; 65535] = [0; 65535];
     all_orders(&mut h, &mut y, &mut out, &mut room, &mut tags);
     loud_lines(&mut y, &mut out, &mut room, &mut tags);
 }

@@ -10,7 +10,7 @@ use rounding::means::write_means;
 fn answer(y: &[i32]) -> Answer {
     let mut out = [0i64; 7];
     let mut room = [0i64; 8];
-    let mut tags = [0u16; 14];
+    let mut tags = [0u16; 7];
     response::one_recording(3, 3, y, &mut out, &mut room, &mut tags)
 }
 

@@ -19,12 +19,12 @@ use Rattle.prediction.specs.Calls.{predictionOutcome}
 abbrev seven : ℤ → List ℤ
 seven z = replicate 7 z
 
--- 8 wide numbers and 14 tags, as they are lent here and as they are handed back
+-- 8 wide numbers and 7 tags, as they are lent here and as they are handed back
 abbrev wide : ℤ → List ℤ
 wide z = replicate 8 z
 
 abbrev tags : ℕ → List ℕ
-tags t = replicate 14 t
+tags t = replicate 7 t
 
 -- the taps check's answer, and the one with this number and this period
 abbrev checked : ℕ → ℕ → Answer

@@ -10,3 +10,4 @@ pub mod Transformed
 pub mod Clearing
 pub mod Checks
 pub mod Order
+pub mod Enough

@@ -25,13 +25,13 @@ recorded N taps y out room tags = recordingOutcome N taps y (replicate out (pos 
 pub record Order : Type 0 where
   pub recording : (N taps : ℕ) (y out room : List ℤ) (tags : List ℕ)
       → numbers (recordingChecks N taps y out room tags) ≡ 1 ∷ 2 ∷ 3 ∷ 4 ∷ 5 ∷ 6 ∷ 7 ∷ []
-  pub recorded-1-2 : recorded 1 2 two 3 4 6 ≡ 1
-  pub recorded-2-3 : recorded 2 4 two 3 4 6 ≡ 2
-  pub recorded-3-4 : recorded 2 2 two 3 4 6 ≡ 3
-  pub recorded-4-5 : recorded 2 1 two 3 4 6 ≡ 4
-  pub recorded-5-6 : (recorded 2 3 two 2 4 6 ≡ 5) × (recorded 2 3 two 3 3 6 ≡ 5) × (recorded 2 3 two 3 4 5 ≡ 5)
-  pub recorded-6-7 : (recorded 2 3 beyond 2 4 6 ≡ 6) × (recorded 2 3 beyond 3 3 6 ≡ 6) × (recorded 2 3 beyond 3 4 5 ≡ 6)
-  pub recorded-7 : recorded 2 3 beyond 3 4 6 ≡ 7
+  pub recorded-1-2 : recorded 1 2 two 3 4 3 ≡ 1
+  pub recorded-2-3 : recorded 2 4 two 3 4 3 ≡ 2
+  pub recorded-3-4 : recorded 2 2 two 3 4 3 ≡ 3
+  pub recorded-4-5 : recorded 2 1 two 3 4 3 ≡ 4
+  pub recorded-5-6 : (recorded 2 3 two 2 4 3 ≡ 5) × (recorded 2 3 two 3 3 3 ≡ 5) × (recorded 2 3 two 3 4 2 ≡ 5)
+  pub recorded-6-7 : (recorded 2 3 beyond 2 4 3 ≡ 6) × (recorded 2 3 beyond 3 3 3 ≡ 6) × (recorded 2 3 beyond 3 4 2 ≡ 6)
+  pub recorded-7 : recorded 2 3 beyond 3 4 3 ≡ 7
 
 pub order : Order
 unfolding recordingOutcome period seek some window step dot ones

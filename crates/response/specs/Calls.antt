@@ -1,8 +1,8 @@
 -- One recording, by one function from all that is handed in to all that is handed back: document 01, "Response and prediction", "Order of
--- checks" and "Room". Assumes nothing.
+-- checks" and "Room", and document 02, request 7. Assumes nothing.
 use mathlib.Core.List.{List, [], _∷_, _++_}
 use mathlib.Core.Bool.{Bool}
-use Prim.Native.Nat.{ℕ, _+_, _*_}
+use Prim.Native.Nat.{ℕ, _+_}
 use lib.IntN.{ℤ}
 use lib.ListN.{length}
 use Rattle.sums.specs.Lists.{at, table, put}
@@ -31,5 +31,5 @@ recordingOutcome N taps y out room tags =
       0,
       put (table (P N) (response (P N) (wave N taps) (at y))) out,
       clearedWide (P N + 1) room,
-      clearedTags (2 * P N) tags,
+      clearedTags (P N) tags,
     )

@@ -3,7 +3,7 @@ use crate::respond::finish;
 use crate::spread::spread_wide;
 use register::shift::full_period;
 ghost use mathlib.Core.Path.{_≡_};
-ghost use Prim.Native.Nat.{ℕ, _+_, _*_, _^_, _≤_, _<_};
+ghost use Prim.Native.Nat.{ℕ, _+_, _^_, _≤_, _<_};
 ghost use lib.IntN.{natAbs};
 ghost use lib.ListN.{length};
 ghost use Rattle.sums.specs.Lists.{at, table, put};
@@ -21,10 +21,10 @@ pub fn turn_sums(
     tags: &mut [u16],
 )
     requires { ⌜ (Accepted order taps) × ((j : ℕ) → j < P order → natAbs (at (now y) j) ≤ 2 ^ 34) ⌝ }
-    requires { ⌜ (P order ≤ length (now y)) × (P order ≤ length (now out)) × (P order < length (now room)) × (2 * P order ≤ length (now tags)) ⌝ }
+    requires { ⌜ (P order ≤ length (now y)) × (P order ≤ length (now out)) × (P order < length (now room)) × (P order ≤ length (now tags)) ⌝ }
     ensures { λ _. ⌜ (now (out .exit) ≡ put (table (P order) (response (P order) (wave order taps) (at (now (y .entry))))) (now (out .entry)))
         × (now (room .exit) ≡ clearedWide (P order + 1) (now (room .entry)))
-        × (now (tags .exit) ≡ clearedTags (2 * P order) (now (tags .entry))) ⌝ }
+        × (now (tags .exit) ≡ clearedTags (P order) (now (tags .entry))) ⌝ }
 {
     let period = full_period(order) as usize;
     spread_wide(order, taps, y, room, period);

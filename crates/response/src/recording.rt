@@ -8,7 +8,7 @@ use samples::lengths::room_short;
 use samples::range::some_out;
 ghost use mathlib.Core.Path.{_≡_};
 ghost use mathlib.Core.Bool.{false};
-ghost use Prim.Native.Nat.{_+_, _*_, _≤_, _<_};
+ghost use Prim.Native.Nat.{_+_, _≤_, _<_};
 ghost use lib.ListN.{length};
 ghost use Rattle.sums.specs.Lists.{at, table, put};
 ghost use Rattle.register.specs.Register.{P, wave, Accepted};
@@ -20,10 +20,10 @@ ghost use Rattle.response.specs.Calls.{recordingOutcome};
 // The response of a recording that has passed the checks: into the output, and the room cleared.
 fn turn(order: u32, taps: u32, y: &[i32], out: &mut [i64], room: &mut [i64], tags: &mut [u16])
     requires { ⌜ (Accepted order taps) × (length (now y) ≡ P order) × (someOut (length (now y)) (at (now y)) ≡ false) ⌝ }
-    requires { ⌜ (P order ≤ length (now out)) × (P order < length (now room)) × (2 * P order ≤ length (now tags)) ⌝ }
+    requires { ⌜ (P order ≤ length (now out)) × (P order < length (now room)) × (P order ≤ length (now tags)) ⌝ }
     ensures { λ _. ⌜ (now (out .exit) ≡ put (table (P order) (response (P order) (wave order taps) (at (now (y .entry))))) (now (out .entry)))
         × (now (room .exit) ≡ clearedWide (P order + 1) (now (room .entry)))
-        × (now (tags .exit) ≡ clearedTags (2 * P order) (now (tags .entry))) ⌝ }
+        × (now (tags .exit) ≡ clearedTags (P order) (now (tags .entry))) ⌝ }
 {
     spread(order, taps, y, room);
     finish(order, taps, room, out, tags, y.len());

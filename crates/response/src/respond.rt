@@ -4,7 +4,7 @@ use hadamard::transform;
 use samples::clearing::clear_tags;
 use samples::clearing::clear_wide;
 ghost use mathlib.Core.Path.{_≡_};
-ghost use Prim.Native.Nat.{ℕ, _+_, _*_, _^_, _≤_, _<_};
+ghost use Prim.Native.Nat.{ℕ, _+_, _^_, _≤_, _<_};
 ghost use mathlib.Core.List.{List};
 ghost use lib.IntN.{ℤ};
 ghost use lib.ListN.{length, take};
@@ -43,14 +43,14 @@ pub fn finish(
     tags: &mut [u16],
     period: usize,
 )
-    requires { ⌜ (Accepted order taps) × (period ≡ P order) × (period < length (now room)) × (period ≤ length (now out)) × (2 * period ≤ length (now tags)) ⌝ }
+    requires { ⌜ (Accepted order taps) × (period ≡ P order) × (period < length (now room)) × (period ≤ length (now out)) × (period ≤ length (now tags)) ⌝ }
     requires { ⌜ loudness (take (2 ^ order) (now room)) < 2 ^ 62 ⌝ }
     ensures { λ _. ⌜ ((y : ℕ → ℤ) (was : List ℤ) → Laid (P order) (windowOf order taps) y was (now (room .entry))
         → (now (out .exit) ≡ put (table (P order) (response (P order) (wave order taps) y)) (now (out .entry)))
         × (now (room .exit) ≡ clearedWide (P order + 1) was)
-        × (now (tags .exit) ≡ clearedTags (2 * P order) (now (tags .entry)))) ⌝ }
+        × (now (tags .exit) ≡ clearedTags (P order) (now (tags .entry)))) ⌝ }
 {
     respond(order, taps, room, out, period);
     clear_wide(room, period + 1);
-    clear_tags(tags, 2 * period);
+    clear_tags(tags, period);
 }

@@ -1,8 +1,8 @@
--- Document 01, "What it covers", "The campaign", "Refusal numbers" and "Room": the sample range and its rails, a recording's length, and buffers
+-- Document 01, "What it covers", "The campaign", "Refusal numbers" and "Room", and document 02, request 7: the sample range and its rails, a recording's length, and buffers
 -- that are short or cleared. Assumes nothing.
 use mathlib.Core.List.{List}
 use mathlib.Core.Bool.{Bool, not, _&&_, _||_}
-use Prim.Native.Nat.{ℕ, _+_, _*_}
+use Prim.Native.Nat.{ℕ, _+_}
 use lib.Dec.{eqb, ltb}
 use lib.IntN.{ℤ, pos, negsuc}
 use lib.ListN.{length}
@@ -39,9 +39,9 @@ inside z = ltZ lowest z && ltZ z highest
 abbrev pub lengthOff : ℕ → List ℤ → Bool
 lengthOff P y = not (eqb (length y) P)
 
--- 6: by the lengths lent, the working room, P+1 wide numbers and 2P tags
+-- 6: by the lengths lent, the working room, P+1 wide numbers and P tags
 abbrev pub workShort : ℕ → ℕ → ℕ → Bool
-workShort P room tags = ltb room (P + 1) || ltb tags (2 * P)
+workShort P room tags = ltb room (P + 1) || ltb tags P
 
 -- and with an output of P
 abbrev pub roomShort : ℕ → ℕ → ℕ → ℕ → Bool

@@ -3,12 +3,12 @@ ghost use mathlib.Core.Path.{_≡_};
 ghost use Prim.Native.Nat.{_≤_};
 ghost use Rattle.samples.specs.Samples.{workShort, roomShort, lentShort};
 
-// Whether the working room is short of P+1 wide numbers or 2P tags.
+// Whether the working room is short of P+1 wide numbers or P tags.
 pub fn work_short(period: usize, room: usize, tags: usize) -> bool
     requires { ⌜ period ≤ 65535 ⌝ }
     ensures { λ r. ⌜ r ≡ workShort period room tags ⌝ }
 {
-    room < period + 1 || tags < 2 * period
+    room < period + 1 || tags < period
 }
 
 // Whether an output is short of P, or the working room is short.

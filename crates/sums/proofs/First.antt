@@ -1,12 +1,13 @@
 -- The first refusal of a list of checks, where the list is put together of two: "Sequence: 1, 2, 3, 4, 6" is the taps check's list and
 -- one more. Assumes nothing.
 use mathlib.Core.Path.{_≡_, refl, sym, ap, _∙_, subst}
+use mathlib.Core.Logic.{_↔_, _⊎_, inl, inr, ⊎-elim}
 use mathlib.Core.List.{List, [], _∷_, _++_}
 use mathlib.Core.Bool.{Bool, true, false, cond, not, _&&_, _||_}
-use Prim.Native.Nat.{ℕ, zero, suc}
+use Prim.Native.Nat.{ℕ, zero, suc, _<_}
 use native.Mathlib.Omega.{arith}
-use borrow.Author.Tests.{eqb-false}
-use lib.Dec.{T, eqb}
+use borrow.Author.Tests.{eqb-false, lt-ltb, ltb-true}
+use lib.Dec.{T, eqb, ltb}
 use Rattle.sums.specs.Refusals.{first, answered, outcome}
 
 -- no check has the number 0, which means accepted
@@ -67,9 +68,34 @@ pub accepts : (checks : List (ℕ × Bool)) → Passed checks → first checks �
 accepts [] p = refl
 accepts (check ∷ checks) p = ap (λ b. cond b (check .0) (first checks)) (p .0) ∙ accepts checks (p .1)
 
+-- ---- one check among others
+
+-- a call that answers the first of its checks answers n exactly where those before it pass and its own test says so
+pub exactly : {Holds : Type 0} (answer n : ℕ) (early : List (ℕ × Bool)) (test : Bool) (late : List (ℕ × Bool)) → answer ≡ first (early ++ (n, test) ∷ late)
+    → T (numbered early) → T (lacks n early) → T (lacks n late) → (test ≡ true) ↔ Holds → (answer ≡ n) ↔ ((first early ≡ 0) × Holds)
+exactly answer n early test late told t before behind says = (
+  λ e. let p = passed (first early) refl (sym told ∙ e) in (p, says .0 (holds test (sym (passed-first early ((n, test) ∷ late) t p) ∙ sym told ∙ e))),
+  λ p. told ∙ passed-first early ((n, test) ∷ late) t (p .0) ∙ ap (λ x. cond x n (first late)) (says .1 (p .1)),
+)
+  where
+    passed : (m : ℕ) → first early ≡ m → first (early ++ (n, test) ∷ late) ≡ n → first early ≡ 0
+    passed zero e h = e
+    passed (suc m) e h = absurd (not-first n early before (sym (refused-first early ((n, test) ∷ late) (λ z. omega (arith, e, z))) ∙ h))
+
+    holds : (x : Bool) → cond x n (first late) ≡ n → x ≡ true
+    holds true h = refl
+    holds false h = absurd (not-first n late behind h)
+
 pub or-false : (a b : Bool) → a || b ≡ false → (a ≡ false) × (b ≡ false)
 or-false false b h = (refl, h)
 or-false true b h = absurd (subst T h tt)
+
+pub or-exactly : {A B : Type 0} (a b : Bool) → (a ≡ true) ↔ A → (b ≡ true) ↔ B → (a || b ≡ true) ↔ (A ⊎ B)
+or-exactly true b f g = (λ _. inl (f .0 refl), λ _. refl)
+or-exactly false b f g = (λ e. inr (g .0 e), ⊎-elim (λ x. absurd (subst T (sym (f .1 x)) tt)) (g .1))
+
+pub ltb-exactly : (m n : ℕ) → (ltb m n ≡ true) ↔ (m < n)
+ltb-exactly m n = (ltb-true m n, lt-ltb m n)
 
 -- ---- what a call comes to, by cases
 
@@ -115,6 +141,11 @@ read-off checks read of back accepted refused none = go (first checks)
     go : (n : ℕ) → read (answered n back accepted) ≡ of n
     go zero = none
     go (suc n) = refused (suc n)
+
+-- what is accepted in either of two cases
+pub either-0 : {A : Type 0} (number : A → ℕ) (b : Bool) (x y : A) → number x ≡ 0 → number y ≡ 0 → number (cond b x y) ≡ 0
+either-0 number true x y e g = e
+either-0 number false x y e g = g
 
 -- a refusal tells its number, and what is accepted tells 0
 module _ {A : Type 0} (checks : List (ℕ × Bool)) (number : A → ℕ) (back : ℕ → A) (accepted : A) (told : (n : ℕ) → number (back n) ≡ n) where

@@ -1,5 +1,6 @@
 -- The laws of what a campaign says.
 pub mod Bounds
 pub mod Leveling
+pub mod Enough
 pub mod Passing
 mod Scanning

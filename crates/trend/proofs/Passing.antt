@@ -1,21 +1,19 @@
 -- What the checks of a response and of a summary have shown where none refuses. Assumes nothing.
 use mathlib.Core.Path.{_≡_}
-use mathlib.Core.Bool.{_||_}
 use mathlib.Core.List.{List}
-use Prim.Native.Nat.{ℕ, _*_, _≤_, _<_}
-use borrow.Author.Tests.{ltb-false, eqb-false}
-use lib.Dec.{ltb}
+use Prim.Native.Nat.{ℕ, _≤_, _<_}
+use borrow.Author.Tests.{eqb-false}
 use lib.IntN.{ℤ}
 use lib.ListN.{length}
 use Rattle.sums.specs.Refusals.{first}
-use Rattle.sums.proofs.First.{passes, or-false}
+use Rattle.sums.proofs.First.{passes}
 use Rattle.register.specs.Register.{P}
-use Rattle.samples.specs.Samples.{workShort}
 use Rattle.samples.proofs.Rooms.{work-long}
 use Rattle.records.specs.Record.{standing, daysIn}
 use Rattle.records.specs.declared.Campaign.{Campaign}
 use Rattle.records.proofs.Holding.{Together, not-apart}
 use Rattle.trend.specs.Calls.{responseChecks, summaryChecks}
+use Rattle.trend.proofs.Enough.{answer-long}
 
 -- ---- a response
 
@@ -24,23 +22,20 @@ pub record Answers (c : Campaign) (store sums r mean room : List ℤ) (tags : Li
   pub r-long : P (c .order) ≤ length r
   pub mean-long : P (c .order) ≤ length mean
   pub room-long : P (c .order) < length room
-  pub tags-long : 2 * P (c .order) ≤ length tags
+  pub tags-long : P (c .order) ≤ length tags
   pub some : daysIn c standing ≡ 0 → ⊥
 
 pub answers : (c : Campaign) (store sums r mean room : List ℤ) (tags : List ℕ) → first (responseChecks c store sums r mean room tags) ≡ 0
     → Answers c store sums r mean room tags
 answers c store sums r mean room tags z =
-    let n = P (c .order) in
     let p = passes (responseChecks c store sums r mean room tags) tt z in
-    let six = or-false (ltb (length r) n || ltb (length mean) n) (workShort n (length room) (length tags)) (p .1 .0) in
-    let out = or-false (ltb (length r) n) (ltb (length mean) n) (six .0) in
-    let work = work-long n (length room) (length tags) (six .1) in
+    let long = answer-long (P (c .order)) (length r) (length mean) (length room) (length tags) (p .1 .0) in
     record {
       whole = not-apart c store sums (p .0);
-      r-long = ltb-false (length r) n (out .0);
-      mean-long = ltb-false (length mean) n (out .1);
-      room-long = work .0;
-      tags-long = work .1;
+      r-long = long .0;
+      mean-long = long .1;
+      room-long = long .2;
+      tags-long = long .3;
       some = eqb-false (daysIn c standing) 0 (p .1 .1 .0);
     }
 
@@ -49,7 +44,7 @@ answers c store sums r mean room tags z =
 pub record Measures (c : Campaign) (store sums room : List ℤ) (tags : List ℕ) : Type 0 where
   pub whole : Together c store sums
   pub room-long : P (c .order) < length room
-  pub tags-long : 2 * P (c .order) ≤ length tags
+  pub tags-long : P (c .order) ≤ length tags
 
 pub measures : (c : Campaign) (store sums room : List ℤ) (tags : List ℕ) → first (summaryChecks c store sums room tags) ≡ 0 → Measures c store sums room tags
 measures c store sums room tags z =

@@ -1,5 +1,5 @@
 -- What a campaign says: counts, response and summary, each by one function from all that is handed in to all that is handed back: document 01,
--- "The campaign", "Refusal numbers", "Order of checks" and "Room". Assumes nothing.
+-- "The campaign", "Refusal numbers", "Order of checks" and "Room", and document 02, request 7. Assumes nothing.
 use mathlib.Core.List.{List, [], _∷_}
 use mathlib.Core.Bool.{Bool, cond, _||_}
 use Prim.Native.Nat.{ℕ, _+_, _*_}
@@ -13,7 +13,7 @@ use Rattle.sums.specs.Refusals.{outcome, Meaning, accepts, refuses}
 use Rattle.register.specs.Register.{P, wave}
 use Rattle.response.specs.Response.{response}
 use Rattle.rounding.specs.Rounding.{rounded}
-use Rattle.samples.specs.Samples.{workShort, clearedWide, clearedTags}
+use Rattle.samples.specs.Samples.{workShort, roomShort, clearedWide, clearedTags}
 use Rattle.records.specs.Record.{unseen, standing, overloaded, dead, withdrawn, daysIn, apart}
 use Rattle.records.specs.declared.Campaign.{Campaign}
 use Rattle.trend.specs.declared.Tally.{Tally}
@@ -41,10 +41,14 @@ countsOutcome c store sums = outcome ((15, apart c store sums) ∷ []) counts.Re
 
 -- ---- response: 15, 6, 14; the answer, r, the mean, the wide room and the tags
 
+-- 6: by the lengths lent, r of P, or the mean of P and the working room
+abbrev pub answerShort : ℕ → ℕ → ℕ → ℕ → ℕ → Bool
+answerShort P r mean room tags = ltb r P || roomShort P mean room tags
+
 abbrev pub responseChecks : Campaign → List ℤ → List ℤ → List ℤ → List ℤ → List ℤ → List ℕ → List (ℕ × Bool)
 responseChecks c store sums r mean room tags =
     (15, apart c store sums)
-    ∷ (6, ltb (length r) (P (c .order)) || ltb (length mean) (P (c .order)) || workShort (P (c .order)) (length room) (length tags))
+    ∷ (6, answerShort (P (c .order)) (length r) (length mean) (length room) (length tags))
     ∷ (14, eqb (daysIn c standing) 0)
     ∷ []
 
@@ -65,7 +69,7 @@ responseOutcome c store sums r mean room tags =
       put (table (P (c .order)) (worked c sums)) r,
       put (table (P (c .order)) (meanAt c sums)) mean,
       clearedWide (P (c .order) + 1) room,
-      clearedTags (2 * P (c .order)) tags,
+      clearedTags (P (c .order)) tags,
     )
 
 -- ---- summary: 15, 6, then nothing stands; the levels, the wide room and the tags
@@ -104,7 +108,7 @@ summaryOutcome c store sums room tags =
     (cond (eqb (daysIn c standing) 0) (summary.Nothing, room, tags) (
       summary.Measured (levelsOf (P (c .order)) (worked c sums) (divisor c)),
       clearedWide (P (c .order) + 1) room,
-      clearedTags (2 * P (c .order)) tags,
+      clearedTags (P (c .order)) tags,
     ))
 
 -- ---- this paper's number for each case of an answer, 0 where it is accepted, and its values

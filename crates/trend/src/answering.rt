@@ -8,14 +8,12 @@ use register::shift::full_period;
 use response::of_sums::turn_sums;
 use rounding::means::write_means;
 ghost use mathlib.Core.Path.{_≡_};
-ghost use mathlib.Core.Bool.{_||_};
 ghost use mathlib.Core.List.{List, [], _∷_};
-ghost use lib.Dec.{eqb, ltb};
+ghost use lib.Dec.{eqb};
 ghost use Rattle.sums.specs.Refusals.{first};
 ghost use Rattle.register.specs.Register.{P};
-ghost use Rattle.samples.specs.Samples.{workShort};
 ghost use Rattle.records.specs.Record.{standing, daysIn, apart};
-ghost use Rattle.trend.specs.Calls.{responseOutcome};
+ghost use Rattle.trend.specs.Calls.{answerShort, responseOutcome};
 
 // The first of 15, 6, 14 that refuses a response into so much room, and 0 where none does.
 fn response_refusal(
@@ -28,7 +26,7 @@ fn response_refusal(
     tags: usize,
 ) -> u32
     ensures { λ n. ⌜ n ≡ first ((15, apart c (now (store .entry)) (now (sums .entry)))
-        ∷ (6, ltb r (P (c .order)) || ltb mean (P (c .order)) || workShort (P (c .order)) room tags)
+        ∷ (6, answerShort (P (c .order)) r mean room tags)
         ∷ (14, eqb (daysIn c standing) 0) ∷ []) ⌝ }
 {
     if !holds(c, store, sums) {

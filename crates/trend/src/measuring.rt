@@ -10,7 +10,7 @@ use samples::clearing::clear_wide;
 use samples::size::size;
 ghost use mathlib.Core.Path.{_≡_};
 ghost use mathlib.Core.Bool.{cond};
-ghost use Prim.Native.Nat.{ℕ, _+_, _-_, _*_, _^_, _≤_, _<_};
+ghost use Prim.Native.Nat.{ℕ, _+_, _-_, _^_, _≤_, _<_};
 ghost use lib.Dec.{leb};
 ghost use lib.IntN.{natAbs, _-ℤ_};
 ghost use lib.ListN.{length};
@@ -81,16 +81,16 @@ pub fn read_extremes(order: u32, taps: u32, t: &[i64], period: usize) -> Extreme
 // The extremes of the response of the first P numbers, worked in the room lent, which is cleared.
 pub fn measure(order: u32, taps: u32, y: &[i64], room: &mut [i64], tags: &mut [u16]) -> Extremes
     requires { ⌜ (Accepted order taps) × ((j : ℕ) → j < P order → natAbs (at (now y) j) ≤ 2 ^ 34) ⌝ }
-    requires { ⌜ (P order ≤ length (now y)) × (P order < length (now room)) × (2 * P order ≤ length (now tags)) ⌝ }
+    requires { ⌜ (P order ≤ length (now y)) × (P order < length (now room)) × (P order ≤ length (now tags)) ⌝ }
     ensures { λ x. ⌜ (x ≡ extremesOf (P order) (response (P order) (wave order taps) (at (now (y .entry)))))
         × (now (room .exit) ≡ clearedWide (P order + 1) (now (room .entry)))
-        × (now (tags .exit) ≡ clearedTags (2 * P order) (now (tags .entry))) ⌝ }
+        × (now (tags .exit) ≡ clearedTags (P order) (now (tags .entry))) ⌝ }
 {
     let period = full_period(order) as usize;
     spread_wide(order, taps, y, room, period);
     transform_room(order, room, period + 1);
     let extremes = read_extremes(order, taps, room, period);
     clear_wide(room, period + 1);
-    clear_tags(tags, 2 * period);
+    clear_tags(tags, period);
     extremes
 }

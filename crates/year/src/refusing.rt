@@ -1,4 +1,4 @@
-// Every refusal that the visits do not bring.
+// Every refusal that the visits do not bring, and what is just enough room.
 use crate::HIGHEST;
 use crate::Held;
 use crate::LOWEST;
@@ -74,22 +74,31 @@ fn short_responses(held: Held, store: &Store, period: usize) -> Held
     let mut next = response_line(held, store, short, PLACES, PLACES, TAGS);
     next = response_line(next, store, PLACES, short, PLACES, TAGS);
     next = response_line(next, store, PLACES, PLACES, period, TAGS);
-    response_line(next, store, PLACES, PLACES, PLACES, 2 * period - 1)
+    response_line(next, store, PLACES, PLACES, PLACES, period - 1)
 }
 
 fn short_summaries(held: Held, store: &Store, period: usize) -> Held
     requires { ⌜ (0 < period) × (period < recording) ⌝ }
 {
     let next = summary_line(held, store, period, TAGS);
-    summary_line(next, store, PLACES, 2 * period - 1)
+    summary_line(next, store, PLACES, period - 1)
+}
+
+// Just as much as they need, which is accepted.
+fn least_rooms(held: Held, store: &Store, period: usize) -> Held
+    requires { ⌜ period < recording ⌝ }
+{
+    let next = response_line(held, store, period, period, period + 1, period);
+    summary_line(next, store, period + 1, period)
 }
 
 fn short_rooms(held: Held, store: &Store, plan: Plan) -> Held
     requires { ⌜ Runs plan ⌝ }
 {
     let period = plan.period;
-    let next = short_responses(held, store, period);
-    short_summaries(next, store, period)
+    let mut next = short_responses(held, store, period);
+    next = short_summaries(next, store, period);
+    least_rooms(next, store, period)
 }
 
 // By one more or one less, where it is small.

@@ -1,6 +1,6 @@
 -- `numbers::large::lines_within` meets its contract: P is at most 65,535. Assumes nothing.
 use mathlib.Core.Path.{sym}
-use Prim.Native.Nat.{_≤_}
+use Prim.Native.Nat.{_+_, _≤_}
 use native.Mathlib.Omega.{arith}
 use lib.ListN.{length-take}
 use lib.Seq.{length-take-le}
@@ -18,6 +18,9 @@ full-period-requires c κs = search needs
 
 cast-period : tie.Need-cast-period
 cast-period c = search needs
+
+add-wide : tie.Need-add-wide
+add-wide c = omega (arith, within c)
 
 slice-relend-prefix-order-lines : tie.Need-slice-relend-prefix-order-lines
 slice-relend-prefix-order-lines c = omega (arith, within c)
@@ -39,6 +42,22 @@ slice-relend-prefix-order-lines-3 c = omega (arith, within (c .before .before))
 slice-aggregate-order-lines-3 : tie.Need-slice-aggregate-order-lines-3
 slice-aggregate-order-lines-3 c =
     sym (length-take-le (c .before .before .before .full-period .result) (c .before .before .before .before .before .args .out .now) (omega (arith, within (c .before .before .before))))
+
+slice-relend-prefix-order-lines-4 : tie.Need-slice-relend-prefix-order-lines-4
+slice-relend-prefix-order-lines-4 c = omega (arith, within (c .before .before .before))
+
+slice-aggregate-order-lines-4 : tie.Need-slice-aggregate-order-lines-4
+slice-aggregate-order-lines-4 c =
+    let f = c .before .before .before .before in
+    sym (length-take-le (f .full-period .result + 1) (f .before .before .args .room .now) (omega (arith, within f)))
+
+slice-relend-prefix-order-lines-5 : tie.Need-slice-relend-prefix-order-lines-5
+slice-relend-prefix-order-lines-5 c = omega (arith, within (c .before .before .before .before))
+
+slice-aggregate-order-lines-5 : tie.Need-slice-aggregate-order-lines-5
+slice-aggregate-order-lines-5 c =
+    let f = c .before .before .before .before .before in
+    sym (length-take-le (f .full-period .result) (f .before .before .args .tags .now) (omega (arith, within f)))
 
 order-lines-requires : tie.Need-order-lines-requires
 order-lines-requires c κs = simp length-take (omega (arith, within (c .before .before .before .before .before)))
@@ -67,12 +86,17 @@ lines-within-spec =
     (tie.spec
     full-period-requires
     cast-period
+    add-wide
     slice-relend-prefix-order-lines
     slice-aggregate-order-lines
     slice-relend-prefix-order-lines-2
     slice-aggregate-order-lines-2
     slice-relend-prefix-order-lines-3
     slice-aggregate-order-lines-3
+    slice-relend-prefix-order-lines-4
+    slice-aggregate-order-lines-4
+    slice-relend-prefix-order-lines-5
+    slice-aggregate-order-lines-5
     order-lines-requires
     same-length
     same-length-2

@@ -1,18 +1,15 @@
 -- `response::recording::check_and_turn` meets its contract: what is handed in decides 1 to 5, the room and the range 6 and 7. Assumes nothing.
 use borrow.Author.Needs.{needs}
-use borrow.Author.Tests.{ltb-false}
 use mathlib.Core.Path.{_≡_, sym, _∙_}
 use mathlib.Core.Bool.{Bool}
 use mathlib.Core.List.{List, []}
-use Prim.Native.Nat.{ℕ, _+_, _*_}
+use Prim.Native.Nat.{ℕ, _+_}
 use native.Mathlib.Omega.{arith}
-use lib.Dec.{ltb}
 use lib.IntN.{ℤ}
 use lib.ListN.{length}
 use Rattle.sums.specs.Lists.{at, table, put}
-use Rattle.sums.proofs.First.{or-false}
-use Rattle.samples.specs.Samples.{workShort, roomShort, clearedWide, clearedTags}
-use Rattle.samples.proofs.Rooms.{work-long}
+use Rattle.samples.specs.Samples.{roomShort, clearedWide, clearedTags}
+use Rattle.samples.proofs.Rooms.{room-long}
 use Rattle.register.specs.Register.{P, wave, Accepted}
 use Rattle.register.proofs.Word.{small}
 use Rattle.response.specs.Response.{response}
@@ -31,7 +28,7 @@ made b =
       0,
       put (table (P (a .order)) (response (P (a .order)) (wave (a .order) (a .taps)) (at (a .y .now)))) (a .out .now),
       clearedWide (P (a .order) + 1) (a .room .now),
-      clearedTags (2 * P (a .order)) (a .tags .now),
+      clearedTags (P (a .order)) (a .tags .now),
     )
 
 abbrev short : tie.Start → Bool
@@ -84,11 +81,9 @@ turn-requires c κs =
     let f = g .before .before in
     let d = f .before .before in
     let a = d .before .before .before .args in
-    let work = workShort (P (a .order)) (length (a .room .now)) (length (a .tags .now)) in
-    let output = or-false (ltb (length (a .out .now)) (P (a .order))) work (sym (tested (f .before)) ∙ f .if2 .left) in
-    let long-room = work-long (P (a .order)) (length (a .room .now)) (length (a .tags .now)) (output .1) in (
+    let long = room-long (P (a .order)) (length (a .room .now)) (length (a .tags .now)) (length (a .out .now)) (sym (tested (f .before)) ∙ f .if2 .left) in (
       (given d .0, given d .1, sym (g .before .some-out .ensures) ∙ g .if3 .left),
-      (ltb-false _ _ (output .0), long-room .0, long-room .1),
+      long,
     )
 
 same-length : tie.Need-same-length

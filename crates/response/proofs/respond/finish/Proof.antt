@@ -23,9 +23,6 @@ add-clear-wide c = search needs
 clear-wide-requires : tie.Need-clear-wide-requires
 clear-wide-requires c κs = search needs
 
-mul-clear-tags : tie.Need-mul-clear-tags
-mul-clear-tags c = search needs
-
 clear-tags-requires : tie.Need-clear-tags-requires
 clear-tags-requires c κs = search needs
 
@@ -61,7 +58,6 @@ finish-spec =
     respond-requires
     add-clear-wide
     clear-wide-requires
-    mul-clear-tags
     clear-tags-requires
     same-length
     same-length-2

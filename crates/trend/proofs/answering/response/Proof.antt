@@ -28,7 +28,7 @@ module _ (c : Campaign) (store sums r mean room : List ℤ) (tags : List ℕ) (n
   refused h = sym (refused-with _ _ (responseChecks c store sums r mean room tags) n e h)
 
   accepted : n ≡ 0 → {u v w : List ℤ} {x : List ℕ} → u ≡ put (table (P (c .order)) (worked c sums)) r
-      → v ≡ put (table (P (c .order)) (meanAt c sums)) mean → w ≡ clearedWide (P (c .order) + 1) room → x ≡ clearedTags (2 * P (c .order)) tags
+      → v ≡ put (table (P (c .order)) (meanAt c sums)) mean → w ≡ clearedWide (P (c .order) + 1) room → x ≡ clearedTags (P (c .order)) tags
       → _≡_ {A = ℕ × List ℤ × List ℤ × List ℤ × List ℕ} (0, u, v, w, x) (responseOutcome c store sums r mean room tags)
   unfolding responseOutcome
   accepted z f g h k = rw (f, g, h, k) (sym (accepted-with _ _ (responseChecks c store sums r mean room tags) n e z))

@@ -1,17 +1,16 @@
 -- `trend::answering::response_refusal` meets its contract: each return rewrites with the tests that led there. Assumes nothing.
 use mathlib.Core.Path.{_≡_, sym, _∙_}
-use mathlib.Core.Bool.{true, false, _||_}
+use mathlib.Core.Bool.{true, false}
 use Prim.Native.Nat.{_≤_}
 use native.Mathlib.Omega.{arith}
 use borrow.Author.Needs.{needs}
 use borrow.Author.Tests.{not-true, not-false, eq-eqb, ne-eqb}
-use lib.Dec.{ltb}
 use Rattle.register.specs.Register.{P}
 use Rattle.register.proofs.Word.{small}
-use Rattle.samples.specs.Samples.{workShort}
 use Rattle.records.specs.Record.{standing, daysIn, together}
 use Rattle.records.proofs.Holding.{holds-together}
 use Rattle.records.proofs.Loops.{days-in-is}
+use Rattle.trend.specs.Calls.{answerShort}
 use Rattle.trend.proofs.answering.response_refusal.Statement.{statement}
 use Rattle.trend.proofs.answering.response_refusal.Tie as tie
 
@@ -41,7 +40,7 @@ returns-2 : tie.Need-returns-2
 returns-2 c = let b = c .before .before in simp (whole (b .before), sym (rw (b .full-period .ensures) at (c .before .answer-short .ensures)) ∙ c .if2 .taken)
 
 -- past the second
-long : (c : tie.Else2) → let a = c .before .before .before .before .before .args in ltb (a .r) (P (a .c .order)) || ltb (a .mean) (P (a .c .order)) || workShort (P (a .c .order)) (a .room) (a .tags) ≡ false
+long : (c : tie.Else2) → let a = c .before .before .before .before .before .args in answerShort (P (a .c .order)) (a .r) (a .mean) (a .room) (a .tags) ≡ false
 long c = sym (rw (c .before .before .full-period .ensures) at (c .before .answer-short .ensures)) ∙ c .if2 .left
 
 slice-aggregate-days-in : tie.Need-slice-aggregate-days-in

@@ -68,9 +68,6 @@ add-clear-wide c = search needs
 clear-wide-requires : tie.Need-clear-wide-requires
 clear-wide-requires c κs = search needs
 
-mul-clear-tags : tie.Need-mul-clear-tags
-mul-clear-tags c = search needs
-
 clear-tags-requires : tie.Need-clear-tags-requires
 clear-tags-requires c κs = search needs
 
@@ -109,7 +106,6 @@ measure-spec =
     read-extremes-requires
     add-clear-wide
     clear-wide-requires
-    mul-clear-tags
     clear-tags-requires
     same-length
     same-length-2

@@ -29,7 +29,7 @@ use Rattle.trend.proofs.summarising.summary.Tie as tie
 module _ (c : Campaign) (store sums room : List ℤ) (tags : List ℕ) (n : ℕ) (e : n ≡ first (summaryChecks c store sums room tags)) where
   -- what is handed back where a day stands, and where none does
   made : Summary × List ℤ × List ℕ
-  made = (summary.Measured (levelsOf (P (c .order)) (worked c sums) (divisor c)), clearedWide (P (c .order) + 1) room, clearedTags (2 * P (c .order)) tags)
+  made = (summary.Measured (levelsOf (P (c .order)) (worked c sums) (divisor c)), clearedWide (P (c .order) + 1) room, clearedTags (P (c .order)) tags)
 
   refused : (n ≡ 0 → ⊥) → (summary.Refused n, room, tags) ≡ summaryOutcome c store sums room tags
   unfolding summaryOutcome
@@ -43,7 +43,7 @@ module _ (c : Campaign) (store sums room : List ℤ) (tags : List ℕ) (n : ℕ)
   nothing z d = sym (ap (λ b. cond b (summary.Nothing, room, tags) made) (eq-eqb (daysIn c standing) 0 d)) ∙ passed z
 
   measured : n ≡ 0 → (daysIn c standing ≡ 0 → ⊥) → {l : Levels} {v : List ℤ} {w : List ℕ} → l ≡ levelsOf (P (c .order)) (worked c sums) (divisor c)
-      → v ≡ clearedWide (P (c .order) + 1) room → w ≡ clearedTags (2 * P (c .order)) tags
+      → v ≡ clearedWide (P (c .order) + 1) room → w ≡ clearedTags (P (c .order)) tags
       → _≡_ {A = Summary × List ℤ × List ℕ} (summary.Measured l, v, w) (summaryOutcome c store sums room tags)
   unfolding made
   measured z d p q r =
