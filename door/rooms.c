@@ -38,6 +38,13 @@ static int room_is(size_t wide_zeros, size_t tag_zeros) {
     return 1;
 }
 
+static void must(int held, const char *what) {
+    if (!held) {
+        wrong++;
+        printf("wrong: order %u: %s\n", order, what);
+    }
+}
+
 /* A call with so much room answers this and leaves zeros in the room that it used. */
 static void expect(int user, size_t wide_len, size_t tags_len, uint32_t expected, int used) {
     for (size_t i = 0; i < 2 * p + 1; i++) {
@@ -59,12 +66,13 @@ static void begin(uint32_t of_order) {
     p = ((size_t)1 << order) - 1;
     for (size_t j = 0; j < p; j++)
         y[j] = (int32_t)(j * 7919 % 20001) - 10000;
-    wrong += meter_default_taps(order, &taps) != 0 || meter_start(RECORD, &period) != 0;
+    must(meter_default_taps(order, &taps) == 0 && meter_start(RECORD, &period) == 0, "a start");
     expect(RESPONSE, p + 1, p - 1, 6, 0);
     expect(RESPONSE, p + 1, p, 14, 0);
     expect(SUMMARY, p + 1, p - 1, 6, 0);
     expect(SUMMARY, p + 1, p, 0, 0);
-    wrong += stands != 0 || meter_enter(RECORD, 1, y, p, &state, &value) != 0 || state != METER_STANDING;
+    must(stands == 0, "a summary of nothing");
+    must(meter_enter(RECORD, 1, y, p, &state, &value) == 0 && state == METER_STANDING, "a night");
 }
 
 static void every_length(int user) {

@@ -25,7 +25,7 @@ zeros : {A : Type 0} (none : A) (n : ℕ) (l : List A) → Cleared none n (put (
 zeros none n l = record { within = λ i z h. at-put n (λ _. none) l i z h }
 
 -- P+1 wide numbers and P tags
-abbrev pub RoomCleared : ℕ → List ℤ → List ℕ → Type 0
+abbrev RoomCleared : ℕ → List ℤ → List ℕ → Type 0
 RoomCleared N room tags = Cleared (pos 0) (P N + 1) room × Cleared 0 (P N) tags
 
 both : (N : ℕ) (room : List ℤ) (tags : List ℕ) → RoomCleared N (clearedWide (P N + 1) room) (clearedTags (P N) tags)

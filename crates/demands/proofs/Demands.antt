@@ -33,6 +33,7 @@ use Rattle.player.specs.declared.NewPlayer.the-variants as new
 use Rattle.player.specs.declared.Tick.the-variants as tick
 use Rattle.player.specs.declared.Stepped.{Stepped}
 use Rattle.player.specs.declared.Played.{Played}
+use Rattle.samples.specs.Samples.{someOut}
 use Rattle.response.specs.Response as formula
 use Rattle.response.specs.Calls.{givenChecks, recordingChecks, recordingOutcome}
 use Rattle.response.proofs.Enough as of-recording
@@ -58,11 +59,11 @@ use Rattle.history.specs.Run as call
 use Rattle.history.proofs.UnderWay.{from-start}
 use Rattle.history.proofs.EveryRun as every-run
 use Rattle.history.proofs.AsIf as as-if
-use Rattle.demands.specs.Buffers.{KeepsTail}
+use Rattle.demands.specs.Buffers.{KeepsTail, Cleared}
 use Rattle.sums.proofs.First.{answers-first, refused-same, either-0}
 use Rattle.demands.proofs.Checking.{entry-answers-first, entry-refused-same, refused-leaves}
 use Rattle.demands.proofs.Tails.{sequence-tail, recording-tails, prediction-tail, prediction-in-room-tails, start-tails, enter-tails, withdraw-tails, response-tails, summary-tails}
-use Rattle.demands.proofs.Clearing.{RoomCleared, recording-clears, response-clears, summary-clears}
+use Rattle.demands.proofs.Clearing.{recording-clears, response-clears, summary-clears}
 use Rattle.demands.proofs.Measuring.{sequence-at, response-at, response-small, prediction-at, prediction-in-room-at}
 
 -- ---- 1. "Every public call ends, on all inputs, with an answer. It refuses for the causes listed in document 01, in the order given there, and for
@@ -252,32 +253,34 @@ how-short =
 -- ---- Document 02: "Turning one recording, a response and a summary must work with P tags instead of 2P, and P+1 wide numbers as now. Show that every order
 -- gets by on it, and give 6 exactly below it. Tags beyond P stay untouched, where 01 had them zeroed."
 --
--- Lent that much, and outputs of P, no order's call answers 6 (`-enough`). It is answered exactly where the checks before it pass and something lent is
--- shorter (`-six`). Accepted, the call leaves zeros in the first P+1 wide numbers and the first P tags (`-clears`); what lies beyond is as it was,
--- whatever the answer: `Tails` above.
+-- Lent that much, and outputs of P, no order's call answers 6, and it answers what its other checks say (`-enough`). 6 is answered exactly where the
+-- checks before it pass and something lent is shorter (`-six`). Accepted, the call leaves zeros in the first P+1 wide numbers and the first P tags
+-- (`-clears`; `Cleared 0 n`: its first n places hold 0). What lies beyond is as it was, whatever the answer: `Tails` above.
 
 pub record Rooms : Type 0 where
   pub recording-enough : (N taps : ℕ) (y out room : List ℤ) (tags : List ℕ) → P N ≤ length out → P N + 1 ≤ length room → P N ≤ length tags
-      → recordingOutcome N taps y out room tags .0 ≡ 6 → ⊥
+      → let n = recordingOutcome N taps y out room tags .0 in (n ≡ 6 → ⊥) × (n ≡ first (givenChecks N taps y ++ (7, someOut (length y) (at y)) ∷ []))
   pub recording-six : (N taps : ℕ) (y out room : List ℤ) (tags : List ℕ) → (recordingOutcome N taps y out room tags .0 ≡ 6)
       ↔ ((first (givenChecks N taps y) ≡ 0) × ((length out < P N) ⊎ (length room < P N + 1) ⊎ (length tags < P N)))
   pub recording-clears : (N taps : ℕ) (y out room : List ℤ) (tags : List ℕ) → let o = recordingOutcome N taps y out room tags in o .0 ≡ 0
-      → RoomCleared N (o .2) (o .3)
+      → Cleared (pos 0) (P N + 1) (o .2) × Cleared 0 (P N) (o .3)
   pub response-enough : (c : Campaign) (store sums r mean room : List ℤ) (tags : List ℕ) → let p = P (c .order) in
-      p ≤ length r → p ≤ length mean → p + 1 ≤ length room → p ≤ length tags → responseOutcome c store sums r mean room tags .0 ≡ 6 → ⊥
+      p ≤ length r → p ≤ length mean → p + 1 ≤ length room → p ≤ length tags
+      → let n = responseOutcome c store sums r mean room tags .0 in
+      (n ≡ 6 → ⊥) × (n ≡ first ((15, apart c store sums) ∷ (14, eqb (daysIn c standing) 0) ∷ []))
   pub response-six : (c : Campaign) (store sums r mean room : List ℤ) (tags : List ℕ) → let p = P (c .order) in
       (responseOutcome c store sums r mean room tags .0 ≡ 6)
       ↔ ((first ((15, apart c store sums) ∷ []) ≡ 0) × ((length r < p) ⊎ (length mean < p) ⊎ (length room < p + 1) ⊎ (length tags < p)))
   pub response-clears : (c : Campaign) (store sums r mean room : List ℤ) (tags : List ℕ) → let o = responseOutcome c store sums r mean room tags in o .0 ≡ 0
-      → RoomCleared (c .order) (o .3) (o .4)
-  pub summary-enough : (c : Campaign) (store sums room : List ℤ) (tags : List ℕ) → let p = P (c .order) in
-      p + 1 ≤ length room → p ≤ length tags → summaryNumber (summaryOutcome c store sums room tags .0) ≡ 6 → ⊥
+      → Cleared (pos 0) (P (c .order) + 1) (o .3) × Cleared 0 (P (c .order)) (o .4)
+  pub summary-enough : (c : Campaign) (store sums room : List ℤ) (tags : List ℕ) → let p = P (c .order) in p + 1 ≤ length room → p ≤ length tags
+      → let n = summaryNumber (summaryOutcome c store sums room tags .0) in (n ≡ 6 → ⊥) × (n ≡ first ((15, apart c store sums) ∷ []))
   pub summary-six : (c : Campaign) (store sums room : List ℤ) (tags : List ℕ) → let p = P (c .order) in
       (summaryNumber (summaryOutcome c store sums room tags .0) ≡ 6)
       ↔ ((first ((15, apart c store sums) ∷ []) ≡ 0) × ((length room < p + 1) ⊎ (length tags < p)))
   -- where a day stands; where none does the room is left alone
   pub summary-clears : (c : Campaign) (store sums room : List ℤ) (tags : List ℕ) (l : Levels) → let o = summaryOutcome c store sums room tags in
-      o .0 ≡ summary.Measured l → RoomCleared (c .order) (o .1) (o .2)
+      o .0 ≡ summary.Measured l → Cleared (pos 0) (P (c .order) + 1) (o .1) × Cleared 0 (P (c .order)) (o .2)
 
 pub half-the-tags : Rooms
 half-the-tags =

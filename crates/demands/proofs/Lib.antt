@@ -2,7 +2,7 @@
 mod Checking
 mod Tails
 mod Measuring
-pub mod Clearing
+mod Clearing
 mod Handing
 pub mod Demands
 pub mod DoorCalls

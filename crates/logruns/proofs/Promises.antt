@@ -104,7 +104,7 @@ module _ {calls : List Call} {c : Campaign} {m : Memory} (r : Running calls c m)
   response-no-six =
       let p : P (c .order) ≤ 511 = omega (arith, pow-mono (order-few r)) in
       response-enough c (m .store) (m .sums) (m .r) (m .mean) (m .room) (m .tags) (omega (arith, p, r .room .r-long)) (omega (arith, p, r .room .mean-long))
-      (omega (arith, p, r .room .room-long)) (omega (arith, p, r .room .tags-long))
+      (omega (arith, p, r .room .room-long)) (omega (arith, p, r .room .tags-long)) .0
 
 -- ---- no line says 15 or 6
 

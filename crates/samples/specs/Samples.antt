@@ -1,5 +1,5 @@
--- Document 01, "What it covers", "The campaign", "Refusal numbers" and "Room", and document 02, request 7: the sample range and its rails, a recording's length, and buffers
--- that are short or cleared. Assumes nothing.
+-- Document 01, "What it covers", "The campaign", "Refusal numbers" and "Room", and document 02, request 7: the sample range and its rails, a recording's
+-- length, and buffers that are short or cleared. Assumes nothing.
 use mathlib.Core.List.{List}
 use mathlib.Core.Bool.{Bool, not, _&&_, _||_}
 use Prim.Native.Nat.{ℕ, _+_}

@@ -1,5 +1,5 @@
 -- The first refusal of a list of checks, where the list is put together of two: "Sequence: 1, 2, 3, 4, 6" is the taps check's list and
--- one more. Assumes nothing.
+-- one more; and where it is a given number. Assumes nothing.
 use mathlib.Core.Path.{_≡_, refl, sym, ap, _∙_, subst}
 use mathlib.Core.Logic.{_↔_, _⊎_, inl, inr, ⊎-elim}
 use mathlib.Core.List.{List, [], _∷_, _++_}
@@ -68,6 +68,17 @@ pub accepts : (checks : List (ℕ × Bool)) → Passed checks → first checks �
 accepts [] p = refl
 accepts (check ∷ checks) p = ap (λ b. cond b (check .0) (first checks)) (p .0) ∙ accepts checks (p .1)
 
+pub or-false : (a b : Bool) → a || b ≡ false → (a ≡ false) × (b ≡ false)
+or-false false b h = (refl, h)
+or-false true b h = absurd (subst T h tt)
+
+pub or-exactly : {A B : Type 0} (a b : Bool) → (a ≡ true) ↔ A → (b ≡ true) ↔ B → (a || b ≡ true) ↔ (A ⊎ B)
+or-exactly true b f g = (λ _. inl (f .0 refl), λ _. refl)
+or-exactly false b f g = (λ e. inr (g .0 e), ⊎-elim (λ x. absurd (subst T (sym (f .1 x)) tt)) (g .1))
+
+pub ltb-exactly : (m n : ℕ) → (ltb m n ≡ true) ↔ (m < n)
+ltb-exactly m n = (ltb-true m n, lt-ltb m n)
+
 -- ---- one check among others
 
 -- a call that answers the first of its checks answers n exactly where those before it pass and its own test says so
@@ -86,16 +97,12 @@ exactly answer n early test late told t before behind says = (
     holds true h = refl
     holds false h = absurd (not-first n late behind h)
 
-pub or-false : (a b : Bool) → a || b ≡ false → (a ≡ false) × (b ≡ false)
-or-false false b h = (refl, h)
-or-false true b h = absurd (subst T h tt)
-
-pub or-exactly : {A B : Type 0} (a b : Bool) → (a ≡ true) ↔ A → (b ≡ true) ↔ B → (a || b ≡ true) ↔ (A ⊎ B)
-or-exactly true b f g = (λ _. inl (f .0 refl), λ _. refl)
-or-exactly false b f g = (λ e. inr (g .0 e), ⊎-elim (λ x. absurd (subst T (sym (f .1 x)) tt)) (g .1))
-
-pub ltb-exactly : (m n : ℕ) → (ltb m n ≡ true) ↔ (m < n)
-ltb-exactly m n = (ltb-true m n, lt-ltb m n)
+-- where its test does not hold, it has no part in the answer
+pub passed-over : (early : List (ℕ × Bool)) (n : ℕ) (test : Bool) (late : List (ℕ × Bool)) → test ≡ false
+    → first (early ++ (n, test) ∷ late) ≡ first (early ++ late)
+passed-over [] n test late e = ap (λ x. cond x n (first late)) e
+passed-over ((m, true) ∷ early) n test late e = refl
+passed-over ((m, false) ∷ early) n test late e = passed-over early n test late e
 
 -- ---- what a call comes to, by cases
 

@@ -1,20 +1,19 @@
 -- Document 02, request 7: a response gets by on r and a mean of P places each, P+1 wide numbers and P tags, whatever the order, and a summary on that
 -- working room; each is refused with 6 exactly below that. Assumes nothing.
-use mathlib.Core.Path.{_≡_, refl}
-use mathlib.Core.Logic.{_↔_, _⊎_, ⊎-elim}
-use mathlib.Core.Bool.{true, false}
+use mathlib.Core.Path.{_≡_, refl, sym, _∙_}
+use mathlib.Core.Logic.{_↔_, _⊎_}
+use mathlib.Core.Bool.{Bool, true, false}
 use mathlib.Core.List.{List, [], _∷_}
 use Prim.Native.Nat.{ℕ, _+_, _≤_, _<_}
-use native.Mathlib.Omega.{arith}
 use borrow.Author.Tests.{ltb-false, le-ltb}
 use lib.Dec.{eqb, ltb}
 use lib.IntN.{ℤ}
 use lib.ListN.{length}
 use Rattle.sums.specs.Refusals.{first}
-use Rattle.sums.proofs.First.{or-false, or-exactly, ltb-exactly, exactly, either-0, answers-first}
+use Rattle.sums.proofs.First.{not-first, or-false, or-exactly, ltb-exactly, exactly, passed-over, either-0, answers-first}
 use Rattle.register.specs.Register.{P}
 use Rattle.samples.specs.Samples.{workShort, roomShort}
-use Rattle.samples.proofs.Rooms.{work-short, room-short, room-long, room-enough}
+use Rattle.samples.proofs.Rooms.{work-short, work-enough, room-short, room-long, room-enough}
 use Rattle.records.specs.Record.{standing, daysIn, apart}
 use Rattle.records.specs.declared.Campaign.{Campaign}
 use Rattle.trend.specs.Calls.{answerShort, responseChecks, responseOutcome, summaryChecks, summaryOutcome, summaryNumber}
@@ -38,32 +37,50 @@ module _ (P r mean room tags : ℕ) where
 -- ---- a response
 
 module _ (c : Campaign) (store sums r mean room : List ℤ) (tags : List ℕ) where
-  pub response-six-exactly : (responseOutcome c store sums r mean room tags .0 ≡ 6)
-      ↔ ((first ((15, apart c store sums) ∷ []) ≡ 0)
-      × ((length r < P (c .order)) ⊎ (length mean < P (c .order)) ⊎ (length room < P (c .order) + 1) ⊎ (length tags < P (c .order))))
+  abbrev short : Bool
+  short = answerShort (P (c .order)) (length r) (length mean) (length room) (length tags)
+
+  response-told : responseOutcome c store sums r mean room tags .0 ≡ first (responseChecks c store sums r mean room tags)
   unfolding responseOutcome
+  response-told =
+      answers-first (responseChecks c store sums r mean room tags) (λ (o : ℕ × List ℤ × List ℤ × List ℤ × List ℕ). o .0) _ _ (λ n. refl) refl
+
+  pub response-six-exactly : let p = P (c .order) in (responseOutcome c store sums r mean room tags .0 ≡ 6)
+      ↔ ((first ((15, apart c store sums) ∷ []) ≡ 0) × ((length r < p) ⊎ (length mean < p) ⊎ (length room < p + 1) ⊎ (length tags < p)))
   response-six-exactly =
-      exactly _ 6 ((15, apart c store sums) ∷ []) (answerShort (P (c .order)) (length r) (length mean) (length room) (length tags))
-      ((14, eqb (daysIn c standing) 0) ∷ [])
-      (answers-first (responseChecks c store sums r mean room tags) (λ (o : ℕ × List ℤ × List ℤ × List ℤ × List ℕ). o .0) _ _ (λ n. refl) refl) tt tt tt
+      exactly _ 6 ((15, apart c store sums) ∷ []) short ((14, eqb (daysIn c standing) 0) ∷ []) response-told tt tt tt
       (answer-short (P (c .order)) (length r) (length mean) (length room) (length tags))
 
-  pub response-enough : P (c .order) ≤ length r → P (c .order) ≤ length mean → P (c .order) + 1 ≤ length room → P (c .order) ≤ length tags
-      → responseOutcome c store sums r mean room tags .0 ≡ 6 → ⊥
-  response-enough a m w t e =
-      ⊎-elim (λ s. omega arith) (⊎-elim (λ s. omega arith) (⊎-elim (λ s. omega arith) (λ s. omega arith))) (response-six-exactly .0 e .1)
+  -- lent enough, it answers what its other checks say, and so never 6
+  pub response-enough : let p = P (c .order) in p ≤ length r → p ≤ length mean → p + 1 ≤ length room → p ≤ length tags
+      → let n = responseOutcome c store sums r mean room tags .0 in
+      (n ≡ 6 → ⊥) × (n ≡ first ((15, apart c store sums) ∷ (14, eqb (daysIn c standing) 0) ∷ []))
+  response-enough a m w t =
+      let e = response-told ∙ passed-over ((15, apart c store sums) ∷ []) 6 short ((14, eqb (daysIn c standing) 0) ∷ [])
+      (answer-enough (P (c .order)) (length r) (length mean) (length room) (length tags) a m w t) in
+      (λ six. not-first 6 ((15, apart c store sums) ∷ (14, eqb (daysIn c standing) 0) ∷ []) tt (sym e ∙ six), e)
 
 -- ---- a summary
 
 module _ (c : Campaign) (store sums room : List ℤ) (tags : List ℕ) where
-  pub summary-six-exactly : (summaryNumber (summaryOutcome c store sums room tags .0) ≡ 6)
-      ↔ ((first ((15, apart c store sums) ∷ []) ≡ 0) × ((length room < P (c .order) + 1) ⊎ (length tags < P (c .order))))
-  unfolding summaryOutcome
-  summary-six-exactly =
-      let number : Summary × List ℤ × List ℕ → ℕ = λ o. summaryNumber (o .0) in
-      exactly _ 6 ((15, apart c store sums) ∷ []) (workShort (P (c .order)) (length room) (length tags)) []
-      (answers-first (summaryChecks c store sums room tags) number _ _ (λ n. refl) (either-0 number (eqb (daysIn c standing) 0) _ _ refl refl)) tt tt tt
-      (work-short (P (c .order)) (length room) (length tags))
+  abbrev number : Summary × List ℤ × List ℕ → ℕ
+  number o = summaryNumber (o .0)
 
-  pub summary-enough : P (c .order) + 1 ≤ length room → P (c .order) ≤ length tags → summaryNumber (summaryOutcome c store sums room tags .0) ≡ 6 → ⊥
-  summary-enough w t e = ⊎-elim (λ s. omega arith) (λ s. omega arith) (summary-six-exactly .0 e .1)
+  abbrev work : Bool
+  work = workShort (P (c .order)) (length room) (length tags)
+
+  summary-told : number (summaryOutcome c store sums room tags) ≡ first (summaryChecks c store sums room tags)
+  unfolding summaryOutcome
+  summary-told =
+      answers-first (summaryChecks c store sums room tags) number _ _ (λ n. refl) (either-0 number (eqb (daysIn c standing) 0) _ _ refl refl)
+
+  pub summary-six-exactly : let p = P (c .order) in (summaryNumber (summaryOutcome c store sums room tags .0) ≡ 6)
+      ↔ ((first ((15, apart c store sums) ∷ []) ≡ 0) × ((length room < p + 1) ⊎ (length tags < p)))
+  summary-six-exactly =
+      exactly _ 6 ((15, apart c store sums) ∷ []) work [] summary-told tt tt tt (work-short (P (c .order)) (length room) (length tags))
+
+  pub summary-enough : let p = P (c .order) in p + 1 ≤ length room → p ≤ length tags → let n = summaryNumber (summaryOutcome c store sums room tags .0) in
+      (n ≡ 6 → ⊥) × (n ≡ first ((15, apart c store sums) ∷ []))
+  summary-enough w t =
+      let e = summary-told ∙ passed-over ((15, apart c store sums) ∷ []) 6 work [] (work-enough (P (c .order)) (length room) (length tags) w t) in
+      (λ six. not-first 6 ((15, apart c store sums) ∷ []) tt (sym e ∙ six), e)
