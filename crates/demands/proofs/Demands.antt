@@ -254,8 +254,8 @@ how-short =
 -- gets by on it, and give 6 exactly below it. Tags beyond P stay untouched, where 01 had them zeroed."
 --
 -- Lent that much, and outputs of P, no order's call answers 6, and it answers what its other checks say (`-enough`). 6 is answered exactly where the
--- checks before it pass and something lent is shorter (`-six`). Accepted, the call leaves zeros in the first P+1 wide numbers and the first P tags
--- (`-clears`; `Cleared 0 n`: its first n places hold 0). What lies beyond is as it was, whatever the answer: `Tails` above.
+-- checks before it pass and something lent is shorter (`-six`; `givenChecks` are 1 to 5). Accepted, the call leaves zeros in the first P+1 wide numbers
+-- and the first P tags (`-clears`; `Cleared 0 n`: its first n places hold 0). What lies beyond is as it was, whatever the answer: `Tails` above.
 
 pub record Rooms : Type 0 where
   pub recording-enough : (N taps : ℕ) (y out room : List ℤ) (tags : List ℕ) → P N ≤ length out → P N + 1 ≤ length room → P N ≤ length tags
