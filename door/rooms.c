@@ -70,6 +70,7 @@ static void begin(uint32_t of_order) {
     expect(RESPONSE, p + 1, p - 1, 6, 0);
     expect(RESPONSE, p + 1, p, 14, 0);
     expect(SUMMARY, p + 1, p - 1, 6, 0);
+    stands = CANARY;
     expect(SUMMARY, p + 1, p, 0, 0);
     must(stands == 0, "a summary of nothing");
     must(meter_enter(RECORD, 1, y, p, &state, &value) == 0 && state == METER_STANDING, "a night");
