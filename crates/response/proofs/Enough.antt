@@ -1,6 +1,6 @@
 -- Document 02, request 7: one recording gets by on an output of P, P+1 wide numbers and P tags, whatever the order, and is refused with 6 exactly below
 -- that. Assumes nothing.
-use mathlib.Core.Path.{_≡_, refl, sym, _∙_}
+use mathlib.Core.Path.{_≡_, refl}
 use mathlib.Core.Logic.{_↔_, _⊎_}
 use mathlib.Core.Bool.{Bool}
 use mathlib.Core.List.{List, [], _∷_, _++_}
@@ -9,7 +9,7 @@ use lib.IntN.{ℤ}
 use lib.ListN.{length}
 use Rattle.sums.specs.Lists.{at}
 use Rattle.sums.specs.Refusals.{first}
-use Rattle.sums.proofs.First.{not-first, exactly, passed-over, answers-first}
+use Rattle.sums.proofs.First.{exactly, passed-over, answers-first}
 use Rattle.samples.specs.Samples.{someOut, roomShort}
 use Rattle.samples.proofs.Rooms.{room-short, room-enough}
 use Rattle.register.specs.Register.{P}
@@ -33,6 +33,4 @@ module _ (N taps : ℕ) (y out room : List ℤ) (tags : List ℕ) where
   -- lent enough, it answers what its other checks say, and so never 6
   pub enough : P N ≤ length out → P N + 1 ≤ length room → P N ≤ length tags → let n = recordingOutcome N taps y out room tags .0 in
       (n ≡ 6 → ⊥) × (n ≡ first (givenChecks N taps y ++ (7, someOut (length y) (at y)) ∷ []))
-  enough o w t =
-      let e = told ∙ passed-over (givenChecks N taps y) 6 short after (room-enough (P N) (length room) (length tags) (length out) o w t) in
-      (λ six. not-first 6 (givenChecks N taps y ++ after) tt (sym e ∙ six), e)
+  enough o w t = passed-over _ 6 (givenChecks N taps y) short after told tt (room-enough (P N) (length room) (length tags) (length out) o w t)

@@ -97,12 +97,16 @@ exactly answer n early test late told t before behind says = (
     holds true h = refl
     holds false h = absurd (not-first n late behind h)
 
--- where its test does not hold, it has no part in the answer
-pub passed-over : (early : List (ℕ × Bool)) (n : ℕ) (test : Bool) (late : List (ℕ × Bool)) → test ≡ false
-    → first (early ++ (n, test) ∷ late) ≡ first (early ++ late)
-passed-over [] n test late e = ap (λ x. cond x n (first late)) e
-passed-over ((m, true) ∷ early) n test late e = refl
-passed-over ((m, false) ∷ early) n test late e = passed-over early n test late e
+-- where its own test does not hold, it answers what the others say, and so never n
+pub passed-over : (answer n : ℕ) (early : List (ℕ × Bool)) (test : Bool) (late : List (ℕ × Bool)) → answer ≡ first (early ++ (n, test) ∷ late)
+    → T (lacks n (early ++ late)) → test ≡ false → (answer ≡ n → ⊥) × (answer ≡ first (early ++ late))
+passed-over answer n early test late told others e =
+    let same = told ∙ without early in (λ h. not-first n (early ++ late) others (sym same ∙ h), same)
+  where
+    without : (checks : List (ℕ × Bool)) → first (checks ++ (n, test) ∷ late) ≡ first (checks ++ late)
+    without [] = ap (λ x. cond x n (first late)) e
+    without ((m, true) ∷ checks) = refl
+    without ((m, false) ∷ checks) = without checks
 
 -- ---- what a call comes to, by cases
 

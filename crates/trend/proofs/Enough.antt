@@ -1,6 +1,6 @@
 -- Document 02, request 7: a response gets by on r and a mean of P places each, P+1 wide numbers and P tags, whatever the order, and a summary on that
 -- working room; each is refused with 6 exactly below that. Assumes nothing.
-use mathlib.Core.Path.{_≡_, refl, sym, _∙_}
+use mathlib.Core.Path.{_≡_, refl}
 use mathlib.Core.Logic.{_↔_, _⊎_}
 use mathlib.Core.Bool.{Bool, true, false}
 use mathlib.Core.List.{List, [], _∷_}
@@ -10,7 +10,7 @@ use lib.Dec.{eqb, ltb}
 use lib.IntN.{ℤ}
 use lib.ListN.{length}
 use Rattle.sums.specs.Refusals.{first}
-use Rattle.sums.proofs.First.{not-first, or-false, or-exactly, ltb-exactly, exactly, passed-over, either-0, answers-first}
+use Rattle.sums.proofs.First.{or-false, or-exactly, ltb-exactly, exactly, passed-over, either-0, answers-first}
 use Rattle.register.specs.Register.{P}
 use Rattle.samples.specs.Samples.{workShort, roomShort}
 use Rattle.samples.proofs.Rooms.{work-short, work-enough, room-short, room-long, room-enough}
@@ -56,9 +56,8 @@ module _ (c : Campaign) (store sums r mean room : List ℤ) (tags : List ℕ) wh
       → let n = responseOutcome c store sums r mean room tags .0 in
       (n ≡ 6 → ⊥) × (n ≡ first ((15, apart c store sums) ∷ (14, eqb (daysIn c standing) 0) ∷ []))
   response-enough a m w t =
-      let e = response-told ∙ passed-over ((15, apart c store sums) ∷ []) 6 short ((14, eqb (daysIn c standing) 0) ∷ [])
-      (answer-enough (P (c .order)) (length r) (length mean) (length room) (length tags) a m w t) in
-      (λ six. not-first 6 ((15, apart c store sums) ∷ (14, eqb (daysIn c standing) 0) ∷ []) tt (sym e ∙ six), e)
+      passed-over _ 6 ((15, apart c store sums) ∷ []) short ((14, eqb (daysIn c standing) 0) ∷ []) response-told tt
+      (answer-enough (P (c .order)) (length r) (length mean) (length room) (length tags) a m w t)
 
 -- ---- a summary
 
@@ -82,5 +81,4 @@ module _ (c : Campaign) (store sums room : List ℤ) (tags : List ℕ) where
   pub summary-enough : let p = P (c .order) in p + 1 ≤ length room → p ≤ length tags → let n = summaryNumber (summaryOutcome c store sums room tags .0) in
       (n ≡ 6 → ⊥) × (n ≡ first ((15, apart c store sums) ∷ []))
   summary-enough w t =
-      let e = summary-told ∙ passed-over ((15, apart c store sums) ∷ []) 6 work [] (work-enough (P (c .order)) (length room) (length tags) w t) in
-      (λ six. not-first 6 ((15, apart c store sums) ∷ []) tt (sym e ∙ six), e)
+      passed-over _ 6 ((15, apart c store sums) ∷ []) work [] summary-told tt (work-enough (P (c .order)) (length room) (length tags) w t)
