@@ -16,7 +16,7 @@ static int32_t y[MOST_P], store[MOST_P], mean[MOST_P];
 static int64_t sums[MOST_P], r[MOST_P], wide[2 * MOST_P + 1];
 static uint16_t tags[2 * MOST_P + 1];
 static uint32_t stands;
-static int calls, wrong;
+static int made, wrong;
 
 #define RECORD order, taps, 1, days, METER_DAYS, slots, METER_SLOTS, store, p, sums, p
 
@@ -39,6 +39,7 @@ static int room_is(size_t wide_zeros, size_t tag_zeros) {
 }
 
 static void must(int held, const char *what) {
+    made++;
     if (!held) {
         wrong++;
         printf("wrong: order %u: %s\n", order, what);
@@ -52,7 +53,7 @@ static void expect(int user, size_t wide_len, size_t tags_len, uint32_t expected
         tags[i] = CANARY;
     }
     uint32_t answer = answer_of(user, wide_len, tags_len);
-    calls++;
+    made++;
     if (answer == expected && room_is(used ? p + 1 : 0, used ? p : 0))
         return;
     wrong++;
@@ -92,6 +93,6 @@ int main(void) {
         for (int user = 0; user < USERS; user++)
             every_length(user);
     }
-    printf("the working room at orders %d to %d: %d calls, %d wrong\n", LEAST_ORDER, MOST_ORDER, calls, wrong);
+    printf("the working room at orders %d to %d: %d expected, %d wrong\n", LEAST_ORDER, MOST_ORDER, made, wrong);
     return wrong != 0;
 }

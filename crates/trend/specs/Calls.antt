@@ -41,7 +41,7 @@ countsOutcome c store sums = outcome ((15, apart c store sums) ∷ []) counts.Re
 
 -- ---- response: 15, 6, 14; the answer, r, the mean, the wide room and the tags
 
--- 6: by the lengths lent, r of P, or the mean of P and the working room
+-- 6: by the lengths lent, r and the mean of P each, and the working room
 abbrev pub answerShort : ℕ → ℕ → ℕ → ℕ → ℕ → Bool
 answerShort P r mean room tags = ltb r P || roomShort P mean room tags
 
