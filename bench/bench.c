@@ -22,7 +22,7 @@ static uint32_t order, taps, short_taps, steps, period;
 static size_t p;
 static uint8_t days[METER_DAYS];
 static uint16_t slots[METER_SLOTS];
-static int32_t *store, *y, *h, *mean, *predicted;
+static int32_t *store, *y, *quiet, *h, *mean, *predicted;
 static int64_t *sums, *r, *room, *other;
 /* Two lists, of which the meter is lent the first and the plain C has both. */
 static uint16_t *tags;
@@ -45,6 +45,12 @@ static void enter(void) {
     uint32_t state;
     size_t value;
     must(meter_enter(RECORD, 64, y, p, &state, &value) == 0 && value == 63, "enter");
+}
+/* A converter that dithers, and nothing else. */
+static void dead(void) {
+    uint32_t state;
+    size_t value;
+    must(meter_enter(RECORD, 65, quiet, p, &state, &value) == 0 && state == METER_DEAD, "dead");
 }
 static void withdraw(void) { must(meter_withdraw(RECORD, 64) == 0, "withdraw"); }
 static void response(void) { must(meter_response(RECORD, r, p, mean, p, ROOM) == 0, "response"); }
@@ -97,9 +103,9 @@ static struct {
     {"fftw", fftw, {0}},
 #endif
     {"predict", predict, {0}}, {"plain_predict", prediction, {0}}, {"refused", refused, {0}}, {"walk", walk, {0}},
-    {"enter", enter, {0}}, {"pass", pass, {0}}, {"response", response, {0}}, {"withdraw", withdraw, {0}},
+    {"enter", enter, {0}}, {"dead", dead, {0}}, {"pass", pass, {0}}, {"response", response, {0}}, {"withdraw", withdraw, {0}},
 };
-enum { PIECES = sizeof pieces / sizeof *pieces, OVER_THE_STORE = PIECES - 4 };
+enum { PIECES = sizeof pieces / sizeof *pieces, OVER_THE_STORE = PIECES - 5 };
 
 static double now(void) {
     struct timespec t;
@@ -169,6 +175,9 @@ static void rounds(int first, int end) {
 int main(void) {
     store = malloc(SLOT_COUNT * MOST_P * sizeof *store);
     y = malloc(MOST_P * sizeof *y);
+    quiet = malloc(MOST_P * sizeof *quiet);
+    for (size_t j = 0; j < MOST_P; j++)
+        quiet[j] = (int32_t)(5 * j % 8);
     h = malloc(MOST_P * sizeof *h);
     mean = malloc(MOST_P * sizeof *mean);
     predicted = malloc(MOST_P * sizeof *predicted);

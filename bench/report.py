@@ -23,6 +23,7 @@ PIECES = {
     "refused": "taps refused with 4, after nearly P steps",
     "walk": "(e) these steps by plain C",
     "enter": "enter into the 64th slot",
+    "dead": "enter a dead night, every slot used",
     "withdraw": "withdraw it",
     "response": "response of 64 nights",
     "pass": "(d) one pass over the store",
@@ -35,6 +36,7 @@ RATIOS = [
     ("prediction to (b)", ["predict"], ["plain_predict"]),
     ("taps refused with 4 to (e)", ["refused"], ["walk"]),
     ("enter to (d)", ["enter"], ["pass"]),
+    ("a dead night to (d)", ["dead"], ["pass"]),
     ("withdraw to (d)", ["withdraw"], ["pass"]),
     ("response to one recording and (d)", ["response"], ["recording", "pass"]),
 ]

@@ -95,7 +95,7 @@ static void recordings(void) {
 }
 
 static void campaigns(void) {
-    const int32_t y[P] = {-1, -3, -1, 3, 3, -3, 1}, still[P] = {5, 5, 5, 5, 5, 5, 5}, loud[P] = {0, 0, 8388607, 0, 0, 0, -8388608};
+    const int32_t y[P] = {-4, -12, -4, 12, 12, -12, 4}, still[P] = {5, 4, 9, 5, 6, 11, 5}, loud[P] = {0, 0, 8388607, 0, 0, 0, -8388608};
     uint32_t state = 9, unseen = 9, standing = 9, overloaded = 9, dead = 9, withdrawn = 9, stands = 9;
     size_t value = 9;
     double highest = 9, lowest = 9, peak = 9;
@@ -111,16 +111,16 @@ static void campaigns(void) {
     EXPECT(meter_summary(RECORD, ROOM, &stands, &highest, &lowest, &peak) == 0 && stands == 0 && highest == 9);
     EXPECT(meter_enter(RECORD, 367, y, P, &state, &value) == 10 && state == 9 && value == 9);
     EXPECT(meter_enter(RECORD, 1, y, P, &state, &value) == 0 && state == METER_STANDING && value == 0);
-    EXPECT(days[0] == METER_STANDING && slots[0] == 1 && store[1] == -3 && sums[1] == -3);
+    EXPECT(days[0] == METER_STANDING && slots[0] == 1 && store[1] == -12 && sums[1] == -12);
     EXPECT(meter_enter(RECORD, 1, y, P, &state, &value) == 11);
     EXPECT(meter_enter(RECORD, 2, still, P, &state, &value) == 0 && state == METER_DEAD && value == 0);
     EXPECT(meter_enter(RECORD, 3, loud, P, &state, &value) == 0 && state == METER_OVERLOADED && value == 2);
     EXPECT(meter_counts(RECORD, &unseen, &standing, &overloaded, &dead, &withdrawn) == 0);
     EXPECT(unseen == 363 && standing == 1 && overloaded == 1 && dead == 1 && withdrawn == 0);
     EXPECT(meter_response(RECORD, r, P + 1, mean, P + 1, ROOM) == 0);
-    EXPECT(memcmp(r, (int64_t[]){16, 0, -8, 0, 0, 0, 0, 9}, sizeof r) == 0 && mean[0] == 2 && mean[2] == -1);
+    EXPECT(memcmp(r, (int64_t[]){64, 0, -32, 0, 0, 0, 0, 9}, sizeof r) == 0 && mean[0] == 8 && mean[2] == -4);
     EXPECT(meter_summary(RECORD, ROOM, &stands, &highest, &lowest, &peak) == 0 && stands == 1);
-    EXPECT(highest == 2 && lowest == -1 && peak == 2);
+    EXPECT(highest == 8 && lowest == -4 && peak == 8);
     sums[0]++;
     EXPECT(meter_counts(RECORD, &unseen, &standing, &overloaded, &dead, &withdrawn) == 15 && unseen == 363);
     EXPECT(meter_withdraw(RECORD, 1) == 15);

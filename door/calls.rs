@@ -204,6 +204,8 @@ impl Campaign {
 const Y: [i32; 7] = [-1, -3, -1, 3, 3, -3, 1];
 const R: [i64; 7] = [16, 0, -8, 0, 0, 0, 0];
 const H: [i32; 7] = [2, 0, -1, 0, 0, 0, 0];
+// Y times 4, so that it is kept.
+const NIGHT: [i32; 7] = [-4, -12, -4, 12, 12, -12, 4];
 
 // P, or room for the largest order where the order is above it.
 fn length(order: u32) -> usize {
@@ -267,14 +269,14 @@ fn campaigns(facts: &mut Facts) {
     let (answer, mut c) = Campaign::start(3, 3, 2, 366);
     expect!(facts, answer == (0, 7));
     expect!(facts, c.summary(&mut room) == Ok(None));
-    expect!(facts, c.enter(1, &Y) == Ok((1, 0)));
-    expect!(facts, c.enter(2, &[5; 7]) == Ok((3, 0)));
+    expect!(facts, c.enter(1, &NIGHT) == Ok((1, 0)));
+    expect!(facts, c.enter(2, &[5, 4, 9, 5, 6, 11, 5]) == Ok((3, 0)));
     expect!(facts, c.enter(3, &[0, 0, 0, 8388607, 0, 0, 0]) == Ok((2, 3)));
-    expect!(facts, c.enter(1, &Y) == Err(11));
+    expect!(facts, c.enter(1, &NIGHT) == Err(11));
     expect!(facts, c.counts() == Ok([363, 1, 1, 1, 0]));
     expect!(facts, c.response(&mut r, &mut mean, &mut room) == 0);
-    expect!(facts, r == R && mean == H);
-    expect!(facts, c.summary(&mut room) == Ok(Some([2.0, -1.0, 2.0])));
+    expect!(facts, r == R.map(|z| 4 * z) && mean == H.map(|z| 4 * z));
+    expect!(facts, c.summary(&mut room) == Ok(Some([8.0, -4.0, 8.0])));
     expect!(facts, c.withdraw(1) == 0 && c.withdraw(1) == 13);
     expect!(facts, c.response(&mut r, &mut mean, &mut room) == 14);
 }

@@ -5,6 +5,8 @@
 
 /* Order 2, taps 3: P is 3. A campaign has one slot. */
 enum { ORDER = 2, TAPS = 3, P = 3, ROOM = P + 1, TAGS = P };
+/* The first sample of a recording of zeros whose spread is the smallest that is kept. */
+enum { KEPT = 8 };
 
 static uint8_t days[METER_DAYS];
 static uint16_t slots[METER_SLOTS];
@@ -132,7 +134,7 @@ enum { WHOLE, DAMAGED };
 
 /* A start; day 1 stands where asked, which uses the only slot; a damaged record has a sum that is none. */
 static void begin(int standing, int damaged) {
-    const int32_t y[P] = {1, 0, 0};
+    const int32_t y[P] = {KEPT, 0, 0};
     uint32_t state;
     size_t value;
     start(ORDER, TAPS, 1, P, P);
@@ -150,17 +152,23 @@ static void enter(const char *checks, int standing, int damaged, uint32_t day, i
     printf("enter: %s: %u %u %zu\n", checks, answer, state, value);
 }
 
+/* A dead input is still or dithers by a spread of 7; one that does so at a rail is overloaded. */
 static void enters(void) {
-    enter("15 before 10", 0, DAMAGED, 0, 1, 0, P);
-    enter("10 before 5", 0, WHOLE, 0, 1, 0, P - 1);
+    enter("15 before 10", 0, DAMAGED, 0, KEPT, 0, P);
+    enter("10 before 5", 0, WHOLE, 0, KEPT, 0, P - 1);
     enter("5 before 7", 0, WHOLE, 2, 8388608, 0, P - 1);
     enter("7 before 11", 1, WHOLE, 1, 8388608, 0, P);
     enter("11 before the verdict", 1, WHOLE, 1, 8388607, 0, P);
     enter("11 before the verdict", 1, WHOLE, 1, 5, 5, P);
-    enter("11 before 12", 1, WHOLE, 1, 1, 0, P);
+    enter("11 before the verdict", 1, WHOLE, 1, 5, -2, P);
+    enter("11 before 12", 1, WHOLE, 1, KEPT, 0, P);
     enter("overloaded before dead", 0, WHOLE, 2, 8388607, 8388607, P);
+    enter("overloaded before dead", 0, WHOLE, 2, 8388607, 8388600, P);
+    enter("overloaded before dead", 0, WHOLE, 2, -8388601, -8388608, P);
     enter("the verdict before 12", 1, WHOLE, 2, 8388607, 0, P);
+    enter("the verdict before 12", 1, WHOLE, 2, 8388607, 8388600, P);
     enter("the verdict before 12", 1, WHOLE, 2, 5, 5, P);
+    enter("the verdict before 12", 1, WHOLE, 2, 5, -2, P);
 }
 
 static void withdraws(void) {

@@ -89,16 +89,54 @@ static size_t near_tags(size_t p) {
     return below(4) == 0 ? 2 * p : near(p);
 }
 
+enum { LOWEST = -8388608, HIGHEST = 8388607 };
+
+/* The smallest sample of a quiet recording: at a rail, next to one, around 0, near 0 or anywhere between the rails. */
+static int32_t quiet_smallest(int32_t spread) {
+    switch (below(8)) {
+    case 0: return LOWEST;
+    case 1: return HIGHEST - spread;
+    case 2: return LOWEST + 1;
+    case 3: return HIGHEST - 1 - spread;
+    case 4: return -between(0, spread);
+    case 5: return between(-100, 100);
+    default: return between(LOWEST + 1, HIGHEST - 1 - spread);
+    }
+}
+
+/* The first place, the last or any. */
+static size_t end_or_any(size_t n) {
+    uint64_t end = below(3);
+    return end == 0 ? 0 : end == 1 ? n - 1 : below(n);
+}
+
+/* At least two samples, the largest 0 to 9 above the smallest and most often 5 to 9: 7 is the most of a dead input. The others keep to a part of the
+ * spread, so that one sample alone can make it. */
+static void draw_quiet(int32_t *y, size_t n) {
+    int32_t spread = below(3) == 0 ? between(0, 9) : between(5, 9), smallest = quiet_smallest(spread);
+    int32_t from = between(0, spread), to = between(from, spread);
+    size_t at_smallest = end_or_any(n), at_largest = end_or_any(n);
+    if (at_largest == at_smallest)
+        at_largest = (at_smallest + 1) % n;
+    for (size_t j = 0; j < n; j++)
+        y[j] = between(smallest + from, smallest + to);
+    y[at_smallest] = smallest;
+    y[at_largest] = smallest + spread;
+}
+
+/* Quiet ones, one above the range, one at the lower rail, anything between the rails, or small ones. */
 static void draw_samples(int32_t *y, size_t n) {
-    uint64_t style = below(5);
-    int32_t still = between(-8388608, 8388607);
-    size_t rail = below(n);
+    uint64_t style = below(6);
+    if (style < 2) {
+        draw_quiet(y, n);
+        return;
+    }
+    size_t loud = below(n);
     for (size_t j = 0; j < n; j++) {
         switch (style) {
-        case 0: y[j] = still; break;
-        case 1: y[j] = j == rail ? 8388608 : between(-100, 100); break;
-        case 2: y[j] = j == rail ? -8388608 : between(-100, 100); break;
-        case 3: y[j] = between(-8388607, 8388606); break;
+        case 2: y[j] = j == loud ? HIGHEST + 1 : between(-100, 100); break;
+        case 3: y[j] = j == loud ? LOWEST : between(-100, 100); break;
+        case 4: y[j] = between(LOWEST + 1, HIGHEST - 1); break;
         default: y[j] = between(-50, 50); break;
         }
     }
@@ -251,7 +289,7 @@ static size_t used_place(const struct held *c, size_t slot, size_t sum) {
 static struct damage damaged(struct held *c) {
     uint64_t kind = below(6) == 0 ? below(6) : 9;
     size_t day = below(c->days_len), slot = below(c->slots_len), sample = below(c->store_len), sum = below(c->sums_len);
-    int32_t rail = below(2) == 0 ? 8388607 : -8388608;
+    int32_t rail = below(2) == 0 ? HIGHEST : LOWEST;
     if (kind == 5 && used_place(c, slot, sum) < c->store_len)
         sample = used_place(c, slot, sum);
     struct damage d = {day, slot, sample, sum, c->days[day], c->slots[slot], c->store[sample], c->sums[sum], c->count};

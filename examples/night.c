@@ -32,7 +32,7 @@ static void enter(uint32_t day, const int32_t *y) {
 }
 
 int main(void) {
-    const int32_t heard[P] = {-1, -3, -1, 3, 3, -3, 1}, still[P] = {5, 5, 5, 5, 5, 5, 5};
+    const int32_t heard[P] = {-4, -12, -4, 12, 12, -12, 4}, unplugged[P] = {5, 4, 7, 5, 6, 5, 3};
     int64_t r[P], room[P + 1];
     int32_t mean[P];
     uint16_t tags[P];
@@ -40,7 +40,7 @@ int main(void) {
     uint32_t answer = start(TAPS);
     if (answer == METER_ACCEPTED) {
         enter(1, heard);
-        enter(2, still);
+        enter(2, unplugged);
         enter(367, heard);
         answer = meter_response(CAMPAIGN, r, P, mean, P, room, P + 1, tags, P);
     }

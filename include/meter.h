@@ -121,8 +121,9 @@ uint32_t meter_start(uint32_t order, uint32_t taps, uint32_t capacity, uint8_t *
                      uint16_t *slots, size_t slots_len, int32_t *store, size_t store_len, int64_t *sums, size_t sums_len,
                      uint32_t *period);
 
-/* A day's recording judged: 15, 10, 5, 7, 11, and 12 after the verdict. `state` is the state that the verdict gives the day, and `value` the slot
- * of one that stands, the first place at a rail of one that is overloaded, 0 of one that is dead. */
+/* A day's recording judged: 15, 10, 5, 7, 11, and 12 after the verdict. Overloaded: some sample is -8388608 or 8388607, the rails. Otherwise dead: its
+ * largest sample minus its smallest is 7 or less. Otherwise it is kept. `state` is the state that the verdict gives the day, and `value` the slot of
+ * one that stands, the first place at a rail of one that is overloaded, 0 of one that is dead. */
 uint32_t meter_enter(uint32_t order, uint32_t taps, uint32_t capacity, uint8_t *days, size_t days_len,
                      uint16_t *slots, size_t slots_len, int32_t *store, size_t store_len, int64_t *sums, size_t sums_len,
                      uint32_t day, const int32_t *y, size_t y_len, uint32_t *state, size_t *value);

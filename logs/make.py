@@ -4,7 +4,7 @@ The text is that of `second text`: one item a line, `samples` any number of them
 
     start 3 3 2
     day 1
-    samples -1 -3 -1 3 3 -3 1
+    samples -4 -12 -4 12 12 -12 4
     enter
     ask
     withdraw 1

@@ -17,7 +17,10 @@ import meter
 
 Y = [-1, -3, -1, 3, 3, -3, 1]
 R = [16, 0, -8, 0, 0, 0, 0]
-HIT = Y[:3] + [-8388608] + Y[4:]
+# A night that is kept, one that is dead, and one at a rail.
+NIGHT = [4 * v for v in Y]
+QUIET = [5, 4, 9, 5, 6, 11, 5]
+HIT = NIGHT[:3] + [-8388608] + NIGHT[4:]
 BEYOND = 2**31
 
 
@@ -57,21 +60,29 @@ class Calls(Case):
         c = meter.Campaign(3, capacity=2)
         self.assertIsNone(c.summary())
         self.refused(14, c.response)
-        self.assertEqual(c.enter(1, Y), ("standing", 0))
-        self.assertEqual(c.enter(2, [5] * 7), ("dead", 0))
+        self.assertEqual(c.enter(1, NIGHT), ("standing", 0))
+        self.assertEqual(c.enter(2, QUIET), ("dead", 0))
         self.assertEqual(c.enter(366, HIT), ("overloaded", 3))
-        self.refused(10, c.enter, 367, Y)
-        self.refused(11, c.enter, 1, Y)
+        self.refused(10, c.enter, 367, NIGHT)
+        self.refused(11, c.enter, 1, NIGHT)
         self.assertEqual(c.counts(), {"unseen": 363, "standing": 1, "overloaded": 1, "dead": 1, "withdrawn": 0})
         self.assertEqual(c.states(), {"standing": [1], "dead": [2], "overloaded": [366]})
-        self.assertEqual(c.response(), (R, [2, 0, -1, 0, 0, 0, 0]))
-        self.assertEqual(c.summary(), (2.0, -1.0, 2.0))
+        self.assertEqual(c.response(), ([4 * v for v in R], [8, 0, -4, 0, 0, 0, 0]))
+        self.assertEqual(c.summary(), (8.0, -4.0, 8.0))
         c.withdraw(1)
         self.refused(13, c.withdraw, 1)
         self.assertEqual(c.states()["withdrawn"], [1])
         self.refused(9, meter.Campaign, 3, 3, 65)
         c._tables[0][7] = 5
         self.refused(15, c.counts)
+
+    def test_dead_up_to_a_spread_of_7(self):
+        c = meter.Campaign(3, capacity=1)
+        for low in (-8388607, -1000, -4, 0, 1000, 8388598):
+            for spread in range(9):
+                night = [low, low, low + spread // 2, low + spread, low, low, low]
+                self.assertEqual(c.enter(1, night), ("dead", 0) if spread <= 7 else ("standing", 0))
+            c.withdraw(1)
 
 
 class Room(Case):
@@ -134,7 +145,7 @@ class Periods(Case):
             (7, meter.predict, [BEYOND] * 7, 3),
             (8, meter.predict, [8388607, 8388607, 0, 0, 0, 0, 0], 3),
             (9, meter.Campaign, 3, 3, 65),
-            (10, c.enter, 367, Y),
+            (10, c.enter, 367, NIGHT),
             (14, c.response),
         ]:
             with self.assertRaises(meter.Refused) as met:
@@ -151,16 +162,16 @@ class Refusals(Case):
             self.refused(7, meter.recording, Y[:6] + [value], 3)
             self.refused(5, meter.predict, [value] * 8, 3)
             c = meter.Campaign(3, capacity=1)
-            c.enter(1, Y)
+            c.enter(1, NIGHT)
             self.refused(10, c.enter, 0, [value] * 7)
             self.refused(5, c.enter, 2, [value] * 8)
-            self.refused(7, c.enter, 1, Y[:6] + [value])
+            self.refused(7, c.enter, 1, NIGHT[:6] + [value])
 
     def test_a_wrong_length_says_P_and_the_length_given(self):
         said = "5: recording or response not exactly P long (P is 7, 6 given)"
         self.assertEqual(self.refused(5, meter.recording, Y[:6], 3), said)
         self.assertEqual(self.refused(5, meter.predict, Y[:6], 3), said)
-        self.assertEqual(self.refused(5, meter.Campaign(3).enter, 1, Y[:6]), said)
+        self.assertEqual(self.refused(5, meter.Campaign(3).enter, 1, NIGHT[:6]), said)
 
     def test_answers_in_words(self):
         said = ["accepted", "verdict kept and C days stand", "the program only: order above 9 or slots above 8", "unknown"]
@@ -184,7 +195,7 @@ class Refusals(Case):
             "capacity": lambda: meter.Campaign(3, 3, "2"),
             "n": lambda: meter.Player(3).play(None),
             "y": lambda: c.enter(1, 5),
-            "a sample of y": lambda: c.enter(1, Y[:6] + [1.5]),
+            "a sample of y": lambda: c.enter(1, NIGHT[:6] + [1.5]),
             "a sample of h": lambda: meter.predict("abcdefg", 3),
             "day": lambda: c.withdraw("1"),
         }.items():
@@ -193,23 +204,23 @@ class Refusals(Case):
 
     def test_the_order_of_a_campaign_stays(self):
         c = meter.Campaign(3)
-        c.enter(1, Y)
+        c.enter(1, NIGHT)
         with self.assertRaises(AttributeError):
             c.order = 4
-        self.assertEqual((c.order, c.response()[0]), (3, R))
+        self.assertEqual((c.order, c.response()[0]), (3, [4 * v for v in R]))
 
 
 class Nights(Case):
     def test_a_day_entered_again_and_kept_is_not_listed(self):
-        self.assertEqual(meter.trend([(1, HIT), (1, Y)], 3), ([2, 0, -1, 0, 0, 0, 0], {}))
+        self.assertEqual(meter.trend([(1, HIT), (1, NIGHT)], 3), ([8, 0, -4, 0, 0, 0, 0], {}))
 
     def test_every_day_named_that_does_not_stand_is_listed(self):
         c = meter.Campaign(3, capacity=1)
         self.assertEqual(c.not_in_mean(), {})
-        c.enter(200, Y)
-        c.enter(6, [5] * 7)
+        c.enter(200, NIGHT)
+        c.enter(6, QUIET)
         c.enter(5, HIT)
-        for number, day, y in [(5, 4, Y[:6]), (7, 3, [BEYOND] * 7), (12, 2, Y), (11, 200, Y), (10, 367, Y), (12, 6, Y)]:
+        for number, day, y in [(5, 4, NIGHT[:6]), (7, 3, [BEYOND] * 7), (12, 2, NIGHT), (11, 200, NIGHT), (10, 367, NIGHT), (12, 6, NIGHT)]:
             self.refused(number, c.enter, day, y)
         for number, day in [(13, 5), (13, 2), (13, 2), (10, -1)]:
             self.refused(number, c.withdraw, day)
@@ -230,13 +241,13 @@ class Nights(Case):
             ],
         )
         c.withdraw(200)
-        c.enter(6, Y)
+        c.enter(6, NIGHT)
         listed = c.not_in_mean()
         self.assertEqual((listed[200], 6 in listed), ("withdrawn", False))
 
     def test_the_ledger_says_what_the_core_says(self):
         draw = random.Random(1)
-        recordings = [Y, [5] * 7, HIT, Y[:6], [BEYOND] * 7]
+        recordings = [NIGHT, QUIET, HIT, NIGHT[:6], [BEYOND] * 7]
         for _ in range(200):
             c, named = meter.Campaign(3, capacity=3), set()
             for _ in range(40):
@@ -278,7 +289,7 @@ class Programs(Case):
                 "not in the mean: day 4, overloaded at sample 4",
                 "not in the mean: day 5, refused 5: recording or response not exactly P long (P is 7, 6 given)",
                 "not in the mean: day 6, refused 12: verdict kept and C days stand (C is 2)",
-                "mean [4, 0, -2, 0, 0, 0, 0]",
+                "mean [16, 0, -8, 0, 0, 0, 0]",
                 "",
             ],
         )

@@ -55,7 +55,7 @@ class Tables(unittest.TestCase):
         self.assertEqual(
             ends,
             {
-                "edges": "the log is bad at byte 372 of 376; what follows was not read",
+                "edges": "the log is bad at byte 861 of 865; what follows was not read",
                 "order-1": "the start was refused 1: order below 2 or above 16; no night was read",
                 "order-10": "the start was refused 17: the program only: order above 9 or slots above 8; no night was read",
                 "order-17": "the start was refused 1: order below 2 or above 16; no night was read",
@@ -72,7 +72,7 @@ class Tables(unittest.TestCase):
         self.assertIn(f"$ cat paper.lines\n{lines.decode()}$ ", (root / "README.md").read_text())
 
     def test_300_good_nights_in_8_slots(self):
-        night = "samples -1 -3 -1 3 3 -3 1\nenter\n"
+        night = "samples -4 -12 -4 12 12 -12 4\nenter\n"
         log = make.log_from_text("start 3 3 8\n" + "".join(f"day {day}\n{night}" for day in range(1, 301)) + "ask\n")
         lines = table(log, answered(log))
         full = "refused 12: verdict kept and C days stand (C is 8)"
@@ -135,7 +135,7 @@ class OtherLines(unittest.TestCase):
             self.refuses(log, lines.replace(b"enter " + old, b"enter " + new))
 
     def test_lines_that_cannot_be(self):
-        night, hit, kept = "day 1\nsamples 1 2 3 4 5 6 7\nenter\n", "day 1\nsamples 1 2 3 8388607 5 6 7\nenter\n", "enter 1 0 kept\n"
+        night, hit, kept = "day 1\nsamples 1 2 3 4 5 6 9\nenter\n", "day 1\nsamples 1 2 3 8388607 5 6 9\nenter\n", "enter 1 0 kept\n"
         together = "the answer and the verdict do not go together"
         for text, lines, why in [
             (night, "enter 1 0 -\n", together),

@@ -8,7 +8,7 @@ pub struct Coverage {
 }
 
 /// Everything a log can meet, by family.
-const EXPECTED: [(&str, &str); 5] = [
+const EXPECTED: [(&str, &str); 7] = [
     (
         "start",
         "0 order 2, 0 order 3, 0 order 4, 0 order 5, 0 order 6, 0 order 7, 0 order 8, \
@@ -22,7 +22,20 @@ const EXPECTED: [(&str, &str); 5] = [
          overload on unseen, overload on overloaded, overload on dead, overload on withdrawn, \
          overload when full, dead on unseen, dead on overloaded, dead on dead, \
          dead on withdrawn, dead when full, 5, 5 and standing, 10, 10 and short, 11, \
-         11 and at a rail, 11 and constant, 12",
+         11 and at a rail, 11 and dead, 12, 12 at 8",
+    ),
+    (
+        "spread",
+        "dead at 0, dead at 1 to 4, dead at 5, dead at 6, dead at 7, kept at 8, kept at 9, \
+         kept above 9, overload at 0, overload at 1 to 4, overload at 5, overload at 6, \
+         overload at 7, overload at 8, overload at 9, overload above 9",
+    ),
+    (
+        "edge",
+        "7 at the lower rail, 7 next to the lower rail, 7 below 0, 7 around 0, 7 above 0, \
+         7 next to the upper rail, 7 at the upper rail, 7 rising, 7 falling, 8 next to the lower rail, 8 below 0, 8 around 0, 8 above 0, \
+         8 next to the upper rail, 8 rising, 8 falling, 8 by the first sample, \
+         8 by the last sample, 8 around the first sample",
     ),
     (
         "withdraw",

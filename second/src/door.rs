@@ -3,6 +3,7 @@
 
 use crate::campaign::{self, Campaign, DayState, Lent, DAYS, FREE, MOST_SLOTS};
 use crate::player::Player;
+use crate::quiet::quiet;
 use crate::reading::Summary;
 use crate::refusal::{number, told_period, Refusal};
 use crate::register::{check_taps, default_taps, sequence};
@@ -82,16 +83,18 @@ fn period_of(order: u32) -> usize {
     }
 }
 
-fn samples(rng: &mut Rng, n: usize) -> Vec<i32> {
-    let style = rng.below(5);
-    let still = rng.between(-8_388_608, 8_388_607);
-    let rail = rng.below(n);
+/// Quiet ones, one above the range, one at the lower rail, anything between the rails, or small ones.
+pub fn samples(rng: &mut Rng, n: usize) -> Vec<i32> {
+    let style = rng.below(6);
+    if style < 2 {
+        return quiet(rng, n);
+    }
+    let loud = rng.below(n);
     let mut sample = |j: usize| match style {
-        0 => still,
-        1 if j == rail => 8_388_608,
-        2 if j == rail => -8_388_608,
-        1 | 2 => rng.between(-100, 100),
-        3 => rng.between(-8_388_607, 8_388_606),
+        2 if j == loud => HIGHEST + 1,
+        3 if j == loud => LOWEST,
+        2 | 3 => rng.between(-100, 100),
+        4 => rng.between(LOWEST + 1, HIGHEST - 1),
         _ => rng.between(-50, 50),
     };
     (0..n).map(&mut sample).collect()

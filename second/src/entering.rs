@@ -47,17 +47,24 @@ pub struct Entry {
     pub verdict: Verdict,
 }
 
+/// The widest spread of a dead input, by request 2 of 02: converters dither.
+pub const DEAD_SPREAD: i64 = 7;
+
+/// The largest sample minus the smallest, wide, so that no two samples overflow; 0 where there is no sample.
+pub fn spread(samples: &[i32]) -> i64 {
+    let ends = samples.iter().max().zip(samples.iter().min());
+    ends.map_or(0, |(&largest, &smallest)| {
+        i64::from(largest) - i64::from(smallest)
+    })
+}
+
 /// Overloaded at its first rail, otherwise dead, otherwise nothing against it.
-pub fn fault(recording: &[i32]) -> Option<Verdict> {
+pub fn fault(samples: &[i32]) -> Option<Verdict> {
     let rail = |&v: &i32| v == LOWEST || v == HIGHEST;
-    if let Some(place) = recording.iter().position(rail) {
+    if let Some(place) = samples.iter().position(rail) {
         return Some(Verdict::Overloaded { place });
     }
-    let first = recording[0];
-    recording
-        .iter()
-        .all(|&v| v == first)
-        .then_some(Verdict::Dead)
+    (spread(samples) <= DEAD_SPREAD).then_some(Verdict::Dead)
 }
 
 impl Campaign {

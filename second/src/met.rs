@@ -1,7 +1,8 @@
 //! Names for what a log met, so that a comparison can show what it covered.
 
 use crate::campaign::{check_day, Campaign, DayState};
-use crate::entering::{fault, Verdict};
+use crate::edge::{self, KEPT_SPREAD};
+use crate::entering::{fault, spread, Verdict};
 use crate::refusal::{number, Refusal};
 use crate::short::Short;
 
@@ -31,7 +32,7 @@ fn refused_start(order: u32, taps: u32, slots: u32, refusal: Refusal) -> String 
     }
 }
 
-/// An entry's answer, and what else was true of the day when it was given.
+/// An entry's answer, what else was true of the day when it was given, and an accepted verdict by its spread.
 pub fn enter(before: &Campaign, samples: &[i32], day: u16, verdict: Verdict) -> Vec<String> {
     let short = samples.len() < before.p();
     let standing = check_day(day).is_ok() && before.state(day) == DayState::Standing;
@@ -42,14 +43,21 @@ pub fn enter(before: &Campaign, samples: &[i32], day: u16, verdict: Verdict) -> 
         Verdict::Refused(Refusal::NotPLong) if standing => vec!["5 and standing".to_string()],
         Verdict::Refused(Refusal::AlreadyStanding) => match fault(samples) {
             Some(Verdict::Overloaded { .. }) => vec!["11 and at a rail".to_string()],
-            Some(_) => vec!["11 and constant".to_string()],
+            Some(_) => vec!["11 and dead".to_string()],
             None => vec!["11".to_string()],
         },
+        Verdict::Refused(Refusal::AllSlotsUsed) if spread(samples) == KEPT_SPREAD => {
+            vec![format!("12 at {KEPT_SPREAD}")]
+        }
         Verdict::Refused(refusal) => vec![refusal.number().to_string()],
         _ if full => vec![on_state(word, before, day), format!("{word} when full")],
         _ => vec![on_state(word, before, day)],
     };
-    names.iter().map(|name| format!("enter: {name}")).collect()
+    let mut names: Vec<String> = names.iter().map(|name| format!("enter: {name}")).collect();
+    if verdict.number() == 0 {
+        names.extend(edge::names(samples, verdict));
+    }
+    names
 }
 
 fn on_state(word: &str, before: &Campaign, day: u16) -> String {

@@ -16,6 +16,8 @@ use std::io::{self, Write};
 const P: usize = 3;
 const ROOM: usize = P + 1;
 const TAGS: usize = P;
+/// Its spread is the smallest that is kept.
+const KEPT: [i32; P] = [8, 0, 0];
 
 /// Prints a line for each case.
 pub fn print(out: &mut impl Write) -> io::Result<()> {
@@ -193,7 +195,7 @@ fn begun(standing: bool, damaged: bool) -> (Campaign, Lent) {
     };
     let mut campaign = start(2, 3, 1, &mut lent.store, &mut lent.sums).expect("it is accepted");
     if standing {
-        campaign.enter(&mut lent, 1, &[1, 0, 0]);
+        campaign.enter(&mut lent, 1, &KEPT);
     }
     lent.sums[0] += i64::from(damaged);
     (campaign, lent)
@@ -211,19 +213,28 @@ fn enter(checks: &str, standing: bool, damaged: bool, day: u16, y: &[i32]) -> St
     format!("enter: {checks}: {answer} {state} {value}")
 }
 
-fn enters() -> [String; 10] {
+/// A dead input is still or dithers by a spread of 7; one that does so at a rail is overloaded.
+fn enters() -> [String; 15] {
     let (loud, beyond) = (8_388_607, 8_388_608);
+    let (still, dithers) = ([5; P], [5, -2, -2]);
+    let upper = [loud, 8_388_600, 8_388_600];
+    let lower = [-8_388_601, -8_388_608, -8_388_608];
     [
-        enter("15 before 10", false, true, 0, &[1, 0, 0]),
-        enter("10 before 5", false, false, 0, &[1, 0]),
+        enter("15 before 10", false, true, 0, &KEPT),
+        enter("10 before 5", false, false, 0, &KEPT[..P - 1]),
         enter("5 before 7", false, false, 2, &[beyond, 0]),
         enter("7 before 11", true, false, 1, &[beyond, 0, 0]),
         enter("11 before the verdict", true, false, 1, &[loud, 0, 0]),
-        enter("11 before the verdict", true, false, 1, &[5; P]),
-        enter("11 before 12", true, false, 1, &[1, 0, 0]),
+        enter("11 before the verdict", true, false, 1, &still),
+        enter("11 before the verdict", true, false, 1, &dithers),
+        enter("11 before 12", true, false, 1, &KEPT),
         enter("overloaded before dead", false, false, 2, &[loud; P]),
+        enter("overloaded before dead", false, false, 2, &upper),
+        enter("overloaded before dead", false, false, 2, &lower),
         enter("the verdict before 12", true, false, 2, &[loud, 0, 0]),
-        enter("the verdict before 12", true, false, 2, &[5; P]),
+        enter("the verdict before 12", true, false, 2, &upper),
+        enter("the verdict before 12", true, false, 2, &still),
+        enter("the verdict before 12", true, false, 2, &dithers),
     ]
 }
 

@@ -38,10 +38,25 @@ pub fn day_of(visit: usize) -> u16 {
     (149 * visit % DAYS) as u16 + 1
 }
 
-/// The P samples of a visit: kept as a rule, overloaded or dead by the visit's number.
+/// The P samples of a quiet visit: b is the smallest, and the largest is s above it.
+fn quiet(visit: usize, p: usize) -> Vec<i32> {
+    let s = visit / 11 % 10;
+    let b = match visit % 3 {
+        0 => LOWEST + 1,
+        1 => HIGHEST - 1 - s as i32,
+        _ => (visit % 200) as i32 - 100,
+    };
+    let sample = |j| b + (31 * visit * j % (s + 1)) as i32;
+    let mut samples: Vec<i32> = (0..p).map(sample).collect();
+    samples[visit % p] = b;
+    samples[(visit + 3) % p] = b + s as i32;
+    samples
+}
+
+/// The P samples of a visit: kept as a rule, overloaded or quiet by the visit's number.
 pub fn recording(visit: usize, p: usize) -> Vec<i32> {
     if visit % 11 == 7 {
-        return vec![(visit % 200) as i32 - 100; p];
+        return quiet(visit, p);
     }
     let sample = |j| ((7_919 * visit + 104_729 * j + 31 * visit * j) % 16_777_213) as i32;
     let mut samples: Vec<i32> = (0..p).map(|j| sample(j) - 8_388_606).collect();

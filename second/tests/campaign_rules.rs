@@ -6,9 +6,9 @@ use second::reading::{Levels, Summary};
 use second::refusal::{number, Refusal};
 use second::room::Room;
 
-const KEPT: [i32; 7] = [-1, -3, -1, 3, 3, -3, 1];
+const KEPT: [i32; 7] = [-4, -12, -4, 12, 12, -12, 4];
 const RAIL: [i32; 7] = [0, 0, 8_388_607, -8_388_608, 0, 0, 0];
-const CONSTANT: [i32; 7] = [5; 7];
+const DITHER: [i32; 7] = [5, -2, 0, 1, 3, -1, 4];
 
 fn lent(slots: usize) -> Lent {
     Lent {
@@ -112,7 +112,7 @@ fn an_entry_refuses_in_order() {
     assert_eq!(refused(at, 366, &[8_388_608; 7]), 7);
     assert_eq!(refused(at, 366, &RAIL), 11);
     assert_eq!(enter(at, 1, &RAIL), Overloaded { place: 2 });
-    assert_eq!(enter(at, 2, &CONSTANT), Dead);
+    assert_eq!(enter(at, 2, &DITHER), Dead);
     assert_eq!(refused(at, 2, &KEPT), 12);
     assert_eq!(counts(at), [363, 1, 1, 1, 0]);
 }
@@ -162,9 +162,9 @@ fn response_and_summary_refuse_in_order() {
     assert_eq!(summary(at, 8, 7), Summary::NothingStands);
     enter(at, 1, &KEPT);
     let levels = Levels {
-        highest: 2.0,
-        lowest: -1.0,
-        at_peak: 2.0,
+        highest: 8.0,
+        lowest: -4.0,
+        at_peak: 8.0,
     };
     assert_eq!(summary(at, 8, 7), Summary::Levels(levels));
 }
@@ -179,24 +179,24 @@ fn a_success_leaves_zeros_in_the_room_and_keeps_the_tails() {
         tags: &mut tags,
     };
     assert_eq!(at.0.response(&at.1, &mut r, &mut means, &mut room), Ok(()));
-    assert_eq!(r, [16, 0, -8, 0, 0, 0, 0, 5]);
-    assert_eq!(means, [2, 0, -1, 0, 0, 0, 0, 5]);
+    assert_eq!(r, [64, 0, -32, 0, 0, 0, 0, 5]);
+    assert_eq!(means, [8, 0, -4, 0, 0, 0, 0, 5]);
     assert_eq!(wide, [0, 0, 0, 0, 0, 0, 0, 0, 5]);
     assert_eq!(tags, [0, 0, 0, 0, 0, 0, 0, 5, 5, 5, 5, 5, 5, 5, 5]);
 }
 
 #[test]
 fn the_peak_is_the_first_of_equal_sizes() {
-    // r is 4, -4, -4, 0, … for the first recording and its negative for the second.
+    // r is 8, -8, -8, 0, … for the first recording and its negative for the second.
     for (recording, at_peak) in [
-        ([0, 0, 0, 2, 0, -2, 0], 0.5),
-        ([0, 0, 0, -2, 0, 2, 0], -0.5),
+        ([0, 0, 0, 4, 0, -4, 0], 1.0),
+        ([0, 0, 0, -4, 0, 4, 0], -1.0),
     ] {
         let at = &mut campaign(1);
         enter(at, 1, &recording);
         let levels = Levels {
-            highest: 0.5,
-            lowest: -0.5,
+            highest: 1.0,
+            lowest: -1.0,
             at_peak,
         };
         assert_eq!(summary(at, 8, 7), Summary::Levels(levels));

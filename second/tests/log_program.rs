@@ -1,4 +1,4 @@
-//! The log program: 01's example byte for byte, and each bad case with its offset.
+//! The log program: 01's example with the samples of request 2 of 02 byte for byte, and each bad case with its offset.
 
 use second::log::answer;
 
@@ -24,9 +24,9 @@ const EXAMPLE: &str = "start 0
 enter 1 0 kept
 enter 2 0 dead
 response 0 1 0 1 0
-0 16 2
+0 64 8
 1 0 0
-2 -8 -1
+2 -32 -4
 3 0 0
 4 0 0
 5 0 0
@@ -38,8 +38,8 @@ response 14 0 0 1 1
 #[test]
 fn the_example_byte_for_byte() {
     let input = [
-        1, 3, 3, 0, 2, 2, 1, 0, 3, 255, 255, 255, 3, 253, 255, 255, 3, 255, 255, 255, 3, 3, 0, 0,
-        3, 3, 0, 0, 3, 253, 255, 255, 3, 1, 0, 0, 4, 2, 2, 0, 3, 5, 0, 0, 3, 5, 0, 0, 3, 5, 0, 0,
+        1, 3, 3, 0, 2, 2, 1, 0, 3, 252, 255, 255, 3, 244, 255, 255, 3, 252, 255, 255, 3, 12, 0, 0,
+        3, 12, 0, 0, 3, 244, 255, 255, 3, 4, 0, 0, 4, 2, 2, 0, 3, 5, 0, 0, 3, 5, 0, 0, 3, 5, 0, 0,
         3, 5, 0, 0, 3, 5, 0, 0, 3, 5, 0, 0, 3, 5, 0, 0, 4, 6, 5, 1, 0, 6,
     ];
     assert_eq!(lines(&input), EXAMPLE);
@@ -109,7 +109,7 @@ fn misplaced_kinds() {
 
 #[test]
 fn a_sample_beyond_p() {
-    let full = log(&[&START, &[2, 1, 0], &samples(&[1, 2, 3, 4, 5, 6, 7])]);
+    let full = log(&[&START, &[2, 1, 0], &samples(&[1, 2, 3, 4, 5, 6, 9])]);
     assert_eq!(full.len(), 36);
     assert_eq!(
         lines(&log(&[&full, &[3, 8, 0, 0], &[4]])),
@@ -161,7 +161,7 @@ fn days_are_judged_when_entered() {
         log(&[
             &START,
             &[2, low, high],
-            &samples(&[1, 2, 3, 4, 5, 6, 7]),
+            &samples(&[1, 2, 3, 4, 5, 6, 9]),
             &[4, 5, low, high],
         ])
     };
@@ -198,5 +198,28 @@ fn samples_are_signed_little_endian() {
     assert_eq!(
         lines(&input),
         "start 0\nenter 1 0 kept\nenter 2 0 overload\n"
+    );
+}
+
+#[test]
+fn a_dead_input_is_at_most_7_apart_and_at_a_rail_it_is_overloaded() {
+    let nights = [
+        [-1, -3, -1, 3, 3, -3, 1],
+        [-1, -3, -1, 3, 4, -3, 1],
+        [-1, -3, -1, 3, 5, -3, 1],
+        [
+            8_388_607, 8_388_600, 8_388_602, 8_388_601, 8_388_606, 8_388_605, 8_388_604,
+        ],
+        [
+            -8_388_601, -8_388_602, -8_388_603, -8_388_604, -8_388_605, -8_388_606, -8_388_608,
+        ],
+    ];
+    let mut input = START.to_vec();
+    for (night, day) in nights.iter().zip(1..) {
+        input.extend(log(&[&[2, day, 0], &samples(night), &[4]]));
+    }
+    assert_eq!(
+        lines(&input),
+        "start 0\nenter 1 0 dead\nenter 2 0 dead\nenter 3 0 kept\nenter 4 0 overload\nenter 5 0 overload\n"
     );
 }

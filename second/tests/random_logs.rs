@@ -3,6 +3,9 @@
 use second::coverage::Coverage;
 use second::log::answer;
 use second::make::log;
+use second::recordings::kept;
+use second::register::default_taps;
+use second::rng::Rng;
 use second::text::log_from_text;
 
 #[test]
@@ -14,19 +17,37 @@ fn the_same_seed_makes_the_same_logs() {
 }
 
 #[test]
-fn two_thousand_logs_meet_everything() {
-    let mut coverage = Coverage::default();
-    for number in 0..2000 {
-        coverage.add(answer(&log(1, number)).met);
+fn a_thousand_logs_meet_everything() {
+    for seed in 1..=3 {
+        let mut coverage = Coverage::default();
+        for number in 0..1000 {
+            coverage.add(answer(&log(seed, number)).met);
+        }
+        let missed = coverage.lines().pop().unwrap();
+        assert_eq!(missed, "not met: none", "seed {seed}");
     }
-    assert_eq!(coverage.lines().last().unwrap(), "not met: none");
 }
 
-const EXAMPLE: &str = "# 01's example
+#[test]
+fn recordings_to_be_kept_are_between_the_rails_and_8_apart() {
+    let rng = &mut Rng::for_log(1, 0);
+    for order in [2, 3, 5] {
+        let taps = default_taps(order).unwrap();
+        for _ in 0..1000 {
+            let mut samples = kept(rng, order, taps);
+            samples.sort_unstable();
+            let (smallest, largest) = (samples[0], samples[samples.len() - 1]);
+            assert!(smallest >= -8_388_607 && largest <= 8_388_606);
+            assert!(largest - smallest >= 8, "{samples:?}");
+        }
+    }
+}
+
+const EXAMPLE: &str = "# 01's example with the samples of request 2 of 02
 start 3 3 2
 day 1
-samples -1 -3 -1 3   # in two parts
-samples 3 -3 1
+samples -4 -12 -4 12   # in two parts
+samples 12 -12 4
 enter
 
 day 2

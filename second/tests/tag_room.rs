@@ -1,6 +1,7 @@
 //! The working room of one recording, a response and a summary: P+1 wide numbers and P tags, and 6 exactly below either.
 
 use second::campaign::{start, Campaign, Lent};
+use second::entering::Verdict;
 use second::numbers::pattern;
 use second::reading::Summary;
 use second::refusal::number;
@@ -80,7 +81,7 @@ impl Caller {
         let entry = caller
             .campaign
             .enter(&mut caller.lent, 1, &caller.recording);
-        assert_eq!(entry.verdict.number(), 0);
+        assert_eq!(entry.verdict, Verdict::Kept { slot: 0 });
         caller
     }
 

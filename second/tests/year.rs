@@ -59,6 +59,50 @@ fn each_campaign_meets_every_verdict() {
     }
 }
 
+/// The quiet visits: what their recordings are, and that each campaign judges one of every spread on both sides of the edge.
+#[test]
+fn each_campaign_meets_quiet_nights_that_are_dead_and_that_are_kept() {
+    for plan in PLANS {
+        let p = period(plan.order);
+        let mut met = BTreeSet::new();
+        let mut calls = begin(plan);
+        for i in 0..VISITS {
+            calls.lines.clear();
+            visit(&mut calls, plan.lag, i);
+            let samples = recording(i, p);
+            let (largest, smallest) = (samples.iter().max(), samples.iter().min());
+            let spread = largest.unwrap() - smallest.unwrap();
+            assert_eq!(i % 11 == 7, spread < 10);
+            if i % 11 == 7 {
+                assert_eq!(spread as usize, i / 11 % 10);
+                met.insert((spread, words(&calls.lines[0])[3].to_string()));
+            }
+        }
+        let verdicts = (0..8)
+            .map(|s| (s, "dead"))
+            .chain([(8, "kept"), (9, "kept")]);
+        for (spread, verdict) in verdicts {
+            assert!(met.remove(&(spread, verdict.to_string())), "{spread}");
+        }
+        // What is left are nights that were not dead and found no slot.
+        assert!(met.iter().all(|(spread, word)| *spread > 7 && word == "-"));
+    }
+}
+
+#[test]
+fn the_quiet_recording_of_a_visit_by_hand() {
+    let from = |b: i32, above: [i32; 7]| above.map(|above| b + above);
+    // s is 4, b next to the lower rail, and 31·51·j mod 5 is j mod 5.
+    let above = [0, 1, 0, 3, 4, 4, 1];
+    assert_eq!(recording(51, 7), from(-8_388_607, above));
+    // s is 6, b + s next to the upper rail, and 31·73·j mod 7 is 2·j mod 7.
+    let above = [0, 2, 4, 0, 1, 3, 6];
+    assert_eq!(recording(73, 7), from(8_388_600, above));
+    // s is 8, b is -5, and 31·95·j mod 9 is 2·j mod 9.
+    let above = [8, 2, 4, 6, 0, 1, 3];
+    assert_eq!(recording(95, 7), from(-5, above));
+}
+
 #[test]
 fn accepted_counts_total_366() {
     for line in PLANS.into_iter().flat_map(lines) {

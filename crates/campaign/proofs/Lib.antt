@@ -1,2 +1,3 @@
 -- The laws of the calls that change a campaign.
 pub mod Passing
+pub mod EntryCases

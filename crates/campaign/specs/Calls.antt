@@ -1,22 +1,22 @@
 -- The calls that change a campaign, each by one function from all that is handed in to all that is handed back: document 01, "The campaign",
 -- "Refusal numbers", "Order of checks" and "Room". Assumes nothing.
 use mathlib.Core.List.{List, [], _∷_, _++_}
-use mathlib.Core.Bool.{Bool, cond, not, _||_}
+use mathlib.Core.Bool.{Bool, true, false, not, _&&_, _||_}
 use Prim.Native.Nat.{ℕ, _*_}
 use lib.Dec.{eqb, ltb}
 use lib.IntN.{ℤ, pos, _+ℤ_, _-ℤ_}
 use lib.ListN.{length}
-use Rattle.sums.specs.Lists.{at, table, put, putAt, seek, every}
-use Rattle.sums.specs.Equal.{eqZ}
+use Rattle.sums.specs.Lists.{at, table, put, putAt, seek}
 use Rattle.sums.specs.Refusals.{outcome, Meaning, accepts, refuses}
 use Rattle.register.specs.Register.{P}
 use Rattle.register.specs.Calls.{tapsChecks, answerOf}
-use Rattle.samples.specs.Samples.{lengthOff, someOut, rail, clearedWide}
+use Rattle.samples.specs.Samples.{lengthOff, someOut, clearedWide}
+use Rattle.finding.specs.Finding.{finding}
+use Rattle.finding.specs.declared.Finding.{Finding}
+use Rattle.finding.specs.declared.Finding.the-variants as found
 use Rattle.records.specs.Record.{standing, overloaded, dead, withdrawn, stands, daysIn, slot, free, base, sample, apart, fresh, marked, filed}
 use Rattle.records.specs.declared.Campaign.{Campaign}
 use Rattle.campaign.specs.declared.Started.{Started}
-use Rattle.campaign.specs.declared.Rail.{Rail}
-use Rattle.campaign.specs.declared.Rail.the-variants as scan
 use Rattle.campaign.specs.declared.Verdict.{Verdict}
 use Rattle.campaign.specs.declared.Verdict.the-variants as verdict
 use Rattle.campaign.specs.declared.Entered.{Entered}
@@ -52,17 +52,6 @@ abbrev pub enterChecks : Campaign → List ℤ → List ℤ → ℕ → List ℤ
 enterChecks c store sums d y =
     (15, apart c store sums) ∷ (10, dayOut d) ∷ (5, lengthOff (P (c .order)) y) ∷ (7, someOut (length y) (at y)) ∷ (11, stands c d) ∷ []
 
--- some sample is -8,388,608 or 8,388,607: the first such place, or the length where there is none
-abbrev pub railPlace : List ℤ → ℕ
-railPlace y = seek (λ j. rail (at y j)) (length y) 0
-
-abbrev pub railOf : List ℤ → Rail
-railOf y = cond (ltb (railPlace y) (length y)) (scan.First (railPlace y)) scan.Clear
-
--- all samples equal
-abbrev pub still : List ℤ → Bool
-still y = every (length y) (λ j. eqZ (at y j) (at y 0))
-
 abbrev pub entered : Campaign → ℕ → Verdict → Entered
 entered c d v = record { entry = record { day = d; verdict = v }; campaign = c }
 
@@ -83,15 +72,35 @@ abbrev pub stayedOutcome : Campaign → List ℤ → List ℤ → ℕ → List �
 stayedOutcome c store sums d y =
     outcome ((12, eqb (daysIn c standing) (c .capacity)) ∷ []) (λ n. (entered c d (verdict.Refused n), store, sums)) (keptOutcome c store sums d y)
 
--- the verdict
-abbrev pub judgedOutcome : Campaign → List ℤ → List ℤ → ℕ → List ℤ → Entered × List ℤ × List ℤ
-judgedOutcome c store sums d y =
-    cond (ltb (railPlace y) (length y)) (entered (marked c d overloaded) d (verdict.Overloaded (railPlace y)), store, sums)
-    (cond (still y) (entered (marked c d dead) d verdict.Dead, store, sums) (stayedOutcome c store sums d y))
+-- the verdict, by what the recording is found to be
+abbrev pub foundOutcome : Finding → Campaign → List ℤ → List ℤ → ℕ → List ℤ → Entered × List ℤ × List ℤ
+foundOutcome (found.Overloaded p) c store sums d y = (entered (marked c d overloaded) d (verdict.Overloaded p), store, sums)
+foundOutcome found.Dead c store sums d y = (entered (marked c d dead) d verdict.Dead, store, sums)
+foundOutcome found.Kept c store sums d y = stayedOutcome c store sums d y
 
 unfoldable pub enterOutcome : Campaign → List ℤ → List ℤ → ℕ → List ℤ → Entered × List ℤ × List ℤ
 enterOutcome c store sums d y =
-    outcome (enterChecks c store sums d y) (λ n. (entered c d (verdict.Refused n), store, sums)) (judgedOutcome c store sums d y)
+    outcome (enterChecks c store sums d y) (λ n. (entered c d (verdict.Refused n), store, sums)) (foundOutcome (finding y) c store sums d y)
+
+-- of an accepted entry: the verdict of its finding, and the state that this gives the day
+abbrev pub verdictOf : Campaign → Finding → Verdict
+verdictOf c (found.Overloaded p) = verdict.Overloaded p
+verdictOf c found.Dead = verdict.Dead
+verdictOf c found.Kept = verdict.Kept (lowestFree c)
+
+abbrev pub stateOf : Finding → ℕ
+stateOf (found.Overloaded p) = overloaded
+stateOf found.Dead = dead
+stateOf found.Kept = standing
+
+-- all checks of an entry: 12 where the verdict is kept and C days stand
+abbrev pub keeps : Finding → Bool
+keeps (found.Overloaded p) = false
+keeps found.Dead = false
+keeps found.Kept = true
+
+abbrev pub enterAll : Campaign → List ℤ → List ℤ → ℕ → List ℤ → List (ℕ × Bool)
+enterAll c store sums d y = enterChecks c store sums d y ++ (12, keeps (finding y) && eqb (daysIn c standing) (c .capacity)) ∷ []
 
 -- ---- withdraw: 15, 10, 13; the answer with the record, the store and the sums
 

@@ -1,10 +1,9 @@
 // The answer of enter.
 use crate::Entered;
 use crate::Entry;
-use crate::Rail;
 use crate::Verdict;
-use crate::judging::all_equal;
-use crate::judging::first_rail;
+use finding::Finding;
+use finding::looking::look;
 use records::Campaign;
 use records::DEAD;
 use records::LAST_DAY;
@@ -22,7 +21,7 @@ use register::shift::full_period;
 use samples::range::some_out;
 ghost use mathlib.Core.Path.{_≡_};
 ghost use Rattle.sums.specs.Refusals.{first};
-ghost use Rattle.campaign.specs.Calls.{enterChecks, stayedOutcome, judgedOutcome, enterOutcome};
+ghost use Rattle.campaign.specs.Calls.{enterChecks, stayedOutcome, foundOutcome, enterOutcome};
 
 // The first of 15, 10, 5, 7, 11 that refuses an entry, and 0 where none does.
 fn enter_refusal(c: Campaign, store: &[i32], sums: &[i64], d: u32, y: &[i32]) -> u32
@@ -73,19 +72,22 @@ fn keep(c: Campaign, store: &mut [i32], sums: &mut [i64], d: u32, y: &[i32]) -> 
     entered(file(c, d, STANDING, s, d as u16), d, Verdict::Kept(s))
 }
 
-// The verdict on a recording that has passed the checks.
-fn judge(c: Campaign, store: &mut [i32], sums: &mut [i64], d: u32, y: &[i32]) -> Entered
+// What becomes of a day whose recording has passed the checks and is found to be this.
+fn settle(
+    c: Campaign,
+    store: &mut [i32],
+    sums: &mut [i64],
+    d: u32,
+    y: &[i32],
+    found: Finding,
+) -> Entered
     requires { ⌜ first (enterChecks c (now store) (now sums) d (now y)) ≡ 0 ⌝ }
-    ensures { λ r. ⌜ (r, now (store .exit), now (sums .exit)) ≡ judgedOutcome c (now (store .entry)) (now (sums .entry)) d (now (y .entry)) ⌝ }
+    ensures { λ r. ⌜ (r, now (store .exit), now (sums .exit)) ≡ foundOutcome found c (now (store .entry)) (now (sums .entry)) d (now (y .entry)) ⌝ }
 {
-    match first_rail(y) {
-        Rail::First(p) => entered(mark(c, d, OVERLOADED), d, Verdict::Overloaded(p)),
-        Rail::Clear => {
-            if all_equal(y) {
-                return entered(mark(c, d, DEAD), d, Verdict::Dead);
-            }
-            keep(c, store, sums, d, y)
-        }
+    match found {
+        Finding::Overloaded(p) => entered(mark(c, d, OVERLOADED), d, Verdict::Overloaded(p)),
+        Finding::Dead => entered(mark(c, d, DEAD), d, Verdict::Dead),
+        Finding::Kept => keep(c, store, sums, d, y),
     }
 }
 
@@ -97,5 +99,5 @@ pub fn enter(c: Campaign, store: &mut [i32], sums: &mut [i64], d: u32, y: &[i32]
     if refusal != 0 {
         return entered(c, d, Verdict::Refused(refusal));
     }
-    judge(c, store, sums, d, y)
+    settle(c, store, sums, d, y, look(y))
 }

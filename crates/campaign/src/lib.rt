@@ -1,6 +1,5 @@
 // The calls that change a campaign: start, enter, withdraw.
 pub mod entering;
-mod judging;
 pub mod starting;
 pub mod withdrawing;
 
@@ -13,18 +12,12 @@ pub struct Started {
     pub campaign: Campaign,
 }
 
-// What the scan for a rail finds: the first place, or none.
-pub enum Rail {
-    First(usize),
-    Clear,
-}
-
 pub enum Verdict {
     // Kept in this slot.
     Kept(usize),
     // At a rail, first at this place.
     Overloaded(usize),
-    // All samples equal.
+    // Its largest sample minus its smallest is 7 or less.
     Dead,
     // The refusal's number.
     Refused(u32),

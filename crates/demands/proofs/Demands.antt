@@ -8,16 +8,18 @@
 -- the record that the last accepted start made.
 use mathlib.Core.Path.{_≡_, refl, sym, ap, _∙_}
 use mathlib.Core.Logic.{_↔_, _⊎_}
-use mathlib.Core.Bool.{Bool, true, cond, not, _&&_}
+use mathlib.Core.Bool.{Bool, true, cond}
 use mathlib.Core.List.{List, [], _∷_, _++_}
 use Prim.Native.Nat.{ℕ, _+_, _-_, _*_, _%_, _^_, _≤_, _<_}
 use native.Mathlib.Numerals.{add-one}
 use native.Mathlib.Omega.{arith}
-use lib.Dec.{eqb, ltb}
+use lib.Dec.{eqb}
 use lib.Count.{ones}
 use lib.IntN.{ℤ, pos, negsuc, natAbs, _-ℤ_, _*ℤ_}
 use lib.ListN.{length, getD, replicate}
+use lib.Signed.{leZ}
 use Rattle.sums.specs.Sum.{sum, total, sign}
+use Rattle.sums.proofs.Largest.{Near, spread-exactly}
 use Rattle.sums.specs.Lists.{at, table, put, putAt, seek, some, every, many}
 use Rattle.sums.specs.Refusals.{first, numbers, outcome}
 use Rattle.register.specs.Register.{P, dot, step, window, bit, wave, period, Maximal}
@@ -39,11 +41,16 @@ use Rattle.response.specs.Calls.{givenChecks, recordingChecks, recordingOutcome
 use Rattle.response.proofs.Enough as of-recording
 use Rattle.prediction.specs.Calls.{predictionChecks, predictionOutcome, roomedChecks, roomedOutcome}
 use Rattle.rounding.specs.Rounding.{nearest}
-use Rattle.records.specs.Record.{unseen, standing, overloaded, dead, withdrawn, state, stands, daysIn, together, apart, fresh, filed}
+use Rattle.finding.specs.Finding.{spread, finding}
+use Rattle.finding.specs.declared.Finding.{Finding}
+use Rattle.finding.specs.declared.Finding.the-variants as finds
+use Rattle.finding.proofs.Exactly.{Clear, Found, found-exactly}
+use Rattle.records.specs.Record.{unseen, standing, overloaded, dead, withdrawn, state, stands, daysIn, together, apart, fresh, marked, filed}
 use Rattle.records.proofs.Refiling.{Day}
 use Rattle.records.specs.declared.Campaign.{Campaign}
-use Rattle.campaign.specs.Calls.{startChecks, startOutcome, enterChecks, railPlace, still, entered, enterOutcome, withdrawChecks, withdrawOutcome, verdictNumber}
+use Rattle.campaign.specs.Calls.{startChecks, startOutcome, entered, enterOutcome, verdictOf, stateOf, enterAll, withdrawChecks, withdrawOutcome, verdictNumber}
 use Rattle.campaign.specs.declared.Started.{Started}
+use Rattle.campaign.proofs.EntryCases.{entry-first, entry-refused, verdict-exactly}
 use Rattle.campaign.proofs.Passing.{start-tells}
 use Rattle.campaign.specs.declared.Entered.{Entered}
 use Rattle.campaign.specs.declared.Withdrawn.{Withdrawn}
@@ -61,7 +68,7 @@ use Rattle.history.proofs.EveryRun as every-run
 use Rattle.history.proofs.AsIf as as-if
 use Rattle.demands.specs.Buffers.{KeepsTail, Cleared}
 use Rattle.sums.proofs.First.{answers-first, refused-same, either-0}
-use Rattle.demands.proofs.Checking.{entry-answers-first, entry-refused-same, refused-leaves}
+use Rattle.demands.proofs.Checking.{refused-leaves}
 use Rattle.demands.proofs.Tails.{sequence-tail, recording-tails, prediction-tail, prediction-in-room-tails, start-tails, enter-tails, withdraw-tails, response-tails, summary-tails}
 use Rattle.demands.proofs.Clearing.{recording-clears, response-clears, summary-clears}
 use Rattle.demands.proofs.Measuring.{sequence-at, response-at, response-small, prediction-at, prediction-in-room-at}
@@ -70,19 +77,13 @@ use Rattle.demands.proofs.Measuring.{sequence-at, response-at, response
 -- no other. A refused call changes nothing in the caller's memory or record."
 --
 -- A function with a proved contract ends, and each contract is an equation to the outcome function named here. `advance` has step's and `fill` play's.
+-- `enterAll` are the checks of an entry, 12 among them: the verdict is kept and C days stand.
 
 -- the checks come in this order; the answer's number is that of the first whose test holds, 0 where none does; a refused call hands back what came in
 pub record Checked {A : Type 0} (order : List ℕ) (checks : List (ℕ × Bool)) (number : A → ℕ) (back : ℕ → A) (o : A) : Type 0 where
   pub in-order : numbers checks ≡ order
   pub answer : number o ≡ first checks
   pub unchanged : (number o ≡ 0 → ⊥) → o ≡ back (number o)
-
--- enter: 15, 10, 5, 7, 11, verdict, 12: the verdict is kept and C days stand
-abbrev pub enterAll : Campaign → List ℤ → List ℤ → ℕ → List ℤ → List (ℕ × Bool)
-enterAll c store sums d y =
-    enterChecks c store sums d y
-    ++ (12, (not (ltb (railPlace y) (length y)) && not (still y)) && eqb (daysIn c standing) (c .capacity))
-    ∷ []
 
 pub record Refusals : Type 0 where
   pub taps-check : (N taps : ℕ) → Checked (1 ∷ 2 ∷ 3 ∷ 4 ∷ []) (tapsChecks N taps) (λ (n : ℕ). n) (λ n. n) (tapsAnswer N taps)
@@ -164,7 +165,7 @@ demand-1 = (
     default-taps = λ N. checked _ _ _ _ _ refl (λ n. refl) refl;
     start = λ c N taps C store sums. checked _ _ _ _ _ refl (λ n. refl) refl;
     enter = λ c store sums d y.
-        record { in-order = refl; answer = entry-answers-first c store sums d y; unchanged = entry-refused-same c store sums d y };
+        record { in-order = refl; answer = entry-first c store sums d y; unchanged = entry-refused c store sums d y };
     withdraw = λ c store sums d. checked _ _ _ _ _ refl (λ n. refl) refl;
     counts = λ c store sums. checked _ _ _ _ _ refl (λ n. refl) refl;
     response = λ c store sums r mean room tags. checked _ _ _ _ _ refl (λ n. refl) refl;
@@ -296,6 +297,41 @@ half-the-tags =
       summary-clears = summary-clears;
     }
 
+-- ---- Document 02: "A recording is dead when its largest sample minus its smallest is 7 or less … Overload still comes first."
+--
+-- `spread y` is the largest sample of y minus its smallest. `Near 7 n f`: no two of f 0 to f (n - 1) are more than 7 apart, which is to say that the spread
+-- is 7 or less (`no-two`); `Apart 7 n f`: two of them are. `Clear y`: no sample of y is -8,388,608 or 8,388,607; `FirstAtRail y p`: p is the first place
+-- where one is. `Found y f` says of the samples what the finding f means: of Overloaded p `FirstAtRail y p`, of Dead `Clear y` and `Near`, of Kept `Clear y`
+-- and `Apart`. Every recording has one finding and only one (`found`). An entry has its verdict exactly where no check refuses (`given`; `dead` is its case
+-- of Dead), and an accepted one makes of its day the state that goes with it (`day`), by which demand 3 goes.
+
+pub record Verdicts : Type 0 where
+  pub no-two : (y : List ℤ) → (leZ (spread y) (pos 7) ≡ true) ↔ Near 7 (length y) (at y)
+  pub found : (y : List ℤ) (f : Finding) → (finding y ≡ f) ↔ Found y f
+  pub given : (c : Campaign) (store sums : List ℤ) (d : ℕ) (y : List ℤ) (f : Finding)
+      → (enterOutcome c store sums d y .0 .entry .verdict ≡ verdictOf c f) ↔ ((first (enterAll c store sums d y) ≡ 0) × Found y f)
+  pub dead : (c : Campaign) (store sums : List ℤ) (d : ℕ) (y : List ℤ)
+      → (enterOutcome c store sums d y .0 .entry .verdict ≡ verdict.Dead)
+      ↔ ((first (enterAll c store sums d y) ≡ 0) × (Clear y × Near 7 (length y) (at y)))
+  pub day : (d : ℕ) (y : List ℤ) (f : Finding) → Found y f → makes (call.enter d y) ≡ stateOf f
+
+pub never-still : Verdicts
+never-still =
+    record {
+      no-two = λ y. spread-exactly 7 (length y) (at y);
+      found = found-exactly;
+      given = said-of;
+      dead = λ c store sums d y. said-of c store sums d y finds.Dead;
+      day = λ d y f h. ap stateOf (found-exactly y f .1 h);
+    }
+  where
+    said-of : (c : Campaign) (store sums : List ℤ) (d : ℕ) (y : List ℤ) (f : Finding)
+        → (enterOutcome c store sums d y .0 .entry .verdict ≡ verdictOf c f) ↔ ((first (enterAll c store sums d y) ≡ 0) × Found y f)
+    said-of c store sums d y f =
+        let v = verdict-exactly c store sums d y f in
+        let w = found-exactly y f in
+        (λ q. (v .0 q .0, w .0 (v .0 q .1)), λ h. v .1 (h .0, w .1 (h .1)))
+
 -- ---- 3. "After any run of calls from a fresh campaign, refused ones included and its lent memory untouched between, each day's state is what the last
 -- accepted call naming that day made it, or unseen if there was none. The sums total, place by place, the last recordings accepted for exactly the days
 -- then standing. If at least one day stands, and each such recording is the circular convolution of a whole-number response with the sequence, the
@@ -391,12 +427,16 @@ taken-back w₀ cs u d a b y e k =
 
 -- ---- It is about something: order 2, taps 3, two slots, on memory that held nines; two nights, the first withdrawn; computed.
 
--- the convolutions of 2, 0, -1 and of 1, 0, 0 with the sequence 1, 1, 0
+-- the convolutions of 9, 0, -4 and of 4, 0, 1 with the sequence 1, 1, 0
 abbrev pub night-1 : List ℤ
-night-1 = negsuc 0 ∷ negsuc 2 ∷ pos 3 ∷ []
+night-1 = negsuc 4 ∷ negsuc 12 ∷ pos 13 ∷ []
 
 abbrev pub night-2 : List ℤ
-night-2 = negsuc 0 ∷ negsuc 0 ∷ pos 1 ∷ []
+night-2 = negsuc 4 ∷ negsuc 2 ∷ pos 3 ∷ []
+
+-- samples 7 apart
+abbrev pub night-3 : List ℤ
+night-3 = pos 0 ∷ pos 7 ∷ pos 3 ∷ []
 
 abbrev pub nights : List Call
 nights = call.enter 2 night-2 ∷ call.enter 1 night-1 ∷ call.start 2 3 2 ∷ []
@@ -417,24 +457,27 @@ abbrev pub one-night : World
 one-night =
     record {
       campaign = filed (fresh 2 3 2) 1 standing 0 1;
-      store = negsuc 0 ∷ negsuc 2 ∷ pos 3 ∷ pos 0 ∷ pos 0 ∷ pos 0 ∷ pos 9 ∷ [];
-      sums = negsuc 0 ∷ negsuc 2 ∷ pos 3 ∷ pos 9 ∷ [];
+      store = negsuc 4 ∷ negsuc 12 ∷ pos 13 ∷ pos 0 ∷ pos 0 ∷ pos 0 ∷ pos 9 ∷ [];
+      sums = negsuc 4 ∷ negsuc 12 ∷ pos 13 ∷ pos 9 ∷ [];
     }
 
 abbrev pub two-nights : World
 two-nights =
     record {
       campaign = filed (filed (fresh 2 3 2) 1 standing 0 1) 2 standing 1 2;
-      store = negsuc 0 ∷ negsuc 2 ∷ pos 3 ∷ negsuc 0 ∷ negsuc 0 ∷ pos 1 ∷ pos 9 ∷ [];
-      sums = negsuc 1 ∷ negsuc 3 ∷ pos 4 ∷ pos 9 ∷ [];
+      store = negsuc 4 ∷ negsuc 12 ∷ pos 13 ∷ negsuc 4 ∷ negsuc 2 ∷ pos 3 ∷ pos 9 ∷ [];
+      sums = negsuc 9 ∷ negsuc 15 ∷ pos 16 ∷ pos 9 ∷ [];
     }
+
+abbrev pub one-dead : World
+one-dead = record { campaign = marked (two-nights .campaign) 3 dead; store = two-nights .store; sums = two-nights .sums }
 
 abbrev pub one-left : World
 one-left =
     record {
       campaign = filed (filed (filed (fresh 2 3 2) 1 standing 0 1) 2 standing 1 2) 1 withdrawn 0 0;
-      store = pos 0 ∷ pos 0 ∷ pos 0 ∷ negsuc 0 ∷ negsuc 0 ∷ pos 1 ∷ pos 9 ∷ [];
-      sums = negsuc 0 ∷ negsuc 0 ∷ pos 1 ∷ pos 9 ∷ [];
+      store = pos 0 ∷ pos 0 ∷ pos 0 ∷ negsuc 4 ∷ negsuc 2 ∷ pos 3 ∷ pos 9 ∷ [];
+      sums = negsuc 4 ∷ negsuc 2 ∷ pos 3 ∷ pos 9 ∷ [];
     }
 
 -- a response with one place more than it needs in r, and twice the tags
@@ -450,11 +493,14 @@ pub record Witness : Type 0 where
   pub begins : run lent (call.start 2 3 2 ∷ []) ≡ began
   pub first-night : (answer began (call.enter 1 night-1) ≡ 0) × (run lent (call.enter 1 night-1 ∷ call.start 2 3 2 ∷ []) ≡ one-night)
   pub second-night : (answer one-night (call.enter 2 night-2) ≡ 0) × (run lent nights ≡ two-nights)
-  pub both : asked two-nights ≡ (0, pos 12 ∷ pos 0 ∷ negsuc 3 ∷ pos 9 ∷ [], pos 2 ∷ pos 0 ∷ negsuc 0 ∷ [], replicate 4 (pos 0), half-zeros)
+  pub both : asked two-nights ≡ (0, pos 52 ∷ pos 0 ∷ negsuc 11 ∷ pos 9 ∷ [], pos 7 ∷ pos 0 ∷ negsuc 1 ∷ [], replicate 4 (pos 0), half-zeros)
+  -- a third night is dead, and store and sums stay
+  pub quiet-night : (answer two-nights (call.enter 3 night-3) ≡ 0)
+      × (after two-nights (call.enter 3 night-3) ≡ one-dead)
   pub withdrawal : (answer two-nights (call.withdraw 1) ≡ 0) × (run lent (call.withdraw 1 ∷ nights) ≡ one-left)
   pub days : (made lent (call.withdraw 1 ∷ nights) 1 ≡ withdrawn) × (made lent (call.withdraw 1 ∷ nights) 2 ≡ standing)
       × (made lent (call.withdraw 1 ∷ nights) 3 ≡ unseen)
-  pub second : asked one-left ≡ (0, pos 4 ∷ pos 0 ∷ pos 0 ∷ pos 9 ∷ [], pos 1 ∷ pos 0 ∷ pos 0 ∷ [], replicate 4 (pos 0), half-zeros)
+  pub second : asked one-left ≡ (0, pos 16 ∷ pos 0 ∷ pos 4 ∷ pos 9 ∷ [], pos 4 ∷ pos 0 ∷ pos 1 ∷ [], replicate 4 (pos 0), half-zeros)
   -- a start refused with 4 tells after how many steps the register returns
   pub short-start : startOutcome (lent .campaign) 4 15 2 (lent .store) (lent .sums)
       ≡ (record { answer = record { number = 4; period = 5 }; campaign = lent .campaign }, lent .store, lent .sums)
@@ -464,7 +510,7 @@ pub record Witness : Type 0 where
       × (after two-nights (call.start 2 3 1)
       ≡ record {
         campaign = fresh 2 3 1;
-        store = pos 0 ∷ pos 0 ∷ pos 0 ∷ negsuc 0 ∷ negsuc 0 ∷ pos 1 ∷ pos 9 ∷ [];
+        store = pos 0 ∷ pos 0 ∷ pos 0 ∷ negsuc 4 ∷ negsuc 2 ∷ pos 3 ∷ pos 9 ∷ [];
         sums = pos 0 ∷ pos 0 ∷ pos 0 ∷ pos 9 ∷ [];
       })
 
@@ -473,12 +519,17 @@ unfolding startOutcome period seek table put window step dot ones
 start-computed = (refl, refl)
 
 first-computed : (answer began (call.enter 1 night-1) ≡ 0) × (after began (call.enter 1 night-1) ≡ one-night)
-unfolding enterOutcome together tapsAnswer period seek some every many total sum table put putAt window step dot ones
+unfolding enterOutcome finding together tapsAnswer period seek some every many total sum table put putAt window step dot ones
 first-computed = (refl, refl)
 
 second-computed : (answer one-night (call.enter 2 night-2) ≡ 0) × (after one-night (call.enter 2 night-2) ≡ two-nights)
-unfolding enterOutcome together tapsAnswer period seek some every many total sum table put putAt window step dot ones
+unfolding enterOutcome finding together tapsAnswer period seek some every many total sum table put putAt window step dot ones
 second-computed = (refl, refl)
+
+quiet-computed : (answer two-nights (call.enter 3 night-3) ≡ 0)
+    × (after two-nights (call.enter 3 night-3) ≡ one-dead)
+unfolding enterOutcome finding together tapsAnswer period seek some every many total sum table put putAt window step dot ones
+quiet-computed = (refl, refl)
 
 withdrawal-computed : (answer two-nights (call.withdraw 1) ≡ 0) × (after two-nights (call.withdraw 1) ≡ one-left)
 unfolding withdrawOutcome together tapsAnswer period seek some every many total sum table put putAt window step dot ones
@@ -502,6 +553,7 @@ witness =
       first-night = (first-computed .0, led .1);
       second-night = (second-computed .0, led .2);
       both = refl;
+      quiet-night = quiet-computed;
       withdrawal = (withdrawal-computed .0, led .3);
       days = (day 1 (omega arith) (omega arith), day 2 (omega arith) (omega arith), day 3 (omega arith) (omega arith));
       second = refl;

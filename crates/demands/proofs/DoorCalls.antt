@@ -1,6 +1,6 @@
 -- The first demand, of a C caller: each door answers the first check that holds, refused it hands back all that was lent, and it leaves what is lent
--- beyond the lengths that it needs. At a start a short table is among the causes of 6; every other door of a campaign looks at the tables first.
--- Assumes nothing.
+-- beyond the lengths that it needs. At a start a short table is among the causes of 6; every other door of a campaign looks at the tables first. And
+-- what the doors tell of requests 2, 6 and 7 of document 02. Assumes nothing.
 use mathlib.Core.Path.{_≡_, refl, sym, ap, _∙_}
 use mathlib.Core.Logic.{_↔_, _⊎_}
 use mathlib.Core.Bool.{Bool, true, false}
@@ -20,9 +20,13 @@ use Rattle.player.specs.Calls.{stepChecks}
 use Rattle.player.specs.declared.Player.{Player}
 use Rattle.samples.specs.Samples.{workShort, clearedWide}
 use Rattle.samples.proofs.Rooms.{work-short}
+use Rattle.finding.specs.declared.Finding.{Finding}
+use Rattle.finding.specs.declared.Finding.the-variants as finds
+use Rattle.finding.proofs.Exactly.{Found, found-exactly}
 use Rattle.records.specs.Record.{standing, daysIn, apart, fresh}
 use Rattle.records.specs.declared.Campaign.{Campaign}
-use Rattle.campaign.specs.Calls.{withdrawChecks}
+use Rattle.campaign.specs.Calls.{enterAll, verdictOf, stateOf, withdrawChecks, verdictMeans}
+use Rattle.campaign.proofs.EntryCases.{accepted-verdict}
 use Rattle.trend.specs.Calls.{answerShort, responseChecks, summaryChecks}
 use Rattle.trend.proofs.Enough.{answer-short}
 use Rattle.trend.specs.declared.Tally.{Tally}
@@ -33,7 +37,7 @@ use Rattle.meter.proofs.Opening.{long, put-backs}
 use Rattle.demands.specs.Buffers.{KeepsTail}
 use Rattle.demands.proofs.Tails.{same, put-tail, written, enter-tails, withdraw-tails, response-tails, summary-tails}
 use Rattle.demands.proofs.Handing.{Handed, enter-handed, withdraw-handed, Long, days-long, slots-long}
-use Rattle.demands.proofs.Demands.{Checked, checked, enterAll, demand-1}
+use Rattle.demands.proofs.Demands.{Checked, checked, demand-1}
 
 -- `meter_taps`, `meter_sequence`, `meter_recording`, `meter_predict` and `meter_predict_in_room` have the calls' own outcome functions, of which
 -- `demand-1` speaks
@@ -230,3 +234,21 @@ door-six =
           exactly _ 6 ((15, tablesShort days slots) ∷ (15, apart (recordOf N taps C days slots) store sums) ∷ []) (workShort (P N) (length room) (length tags)) []
           (refusals .summary N taps C days slots store sums room tags stood was .answer) tt tt tt (work-short (P N) (length room) (length tags));
     }
+
+-- an accepted entry writes the state that goes with what the samples are: dead where no sample is at a rail and no two are more than 7 apart
+pub door-verdict : (N taps C : ℕ) (days slots : List ℕ) (store sums : List ℤ) (d : ℕ) (y : List ℤ) (state value : ℕ) (f : Finding) → Found y f
+    → let o = enterDoor N taps C days slots store sums d y state value in o .0 ≡ 0 → o .5 ≡ stateOf f
+unfolding enterDoor
+door-verdict N taps C days slots store sums d y state value f h =
+    behind-either days slots (λ n. (n, days, slots, store, sums, state, value)) _
+    (λ (o : ℕ × List ℕ × List ℕ × List ℤ × List ℤ × ℕ × ℕ). o .0 ≡ 0 → o .5 ≡ stateOf f) (λ z. absurd (omega arith))
+    (λ _ z.
+    ap (λ v. verdictMeans v .1 (state, value) .0) (accepted-verdict mine store sums d y z ∙ ap (verdictOf mine) (found-exactly y f .1 h)) ∙ gives f)
+  where
+    mine : Campaign
+    mine = recordOf N taps C days slots
+
+    gives : (g : Finding) → verdictMeans (verdictOf (recordOf N taps C days slots) g) .1 (state, value) .0 ≡ stateOf g
+    gives (finds.Overloaded p) = refl
+    gives finds.Dead = refl
+    gives finds.Kept = refl

@@ -17,7 +17,6 @@ use Rattle.records.specs.Record.{fresh}
 use Rattle.records.specs.declared.Campaign.{Campaign}
 use Rattle.campaign.specs.Calls.{startChecks, startOutcome, enterOutcome, withdrawOutcome}
 use Rattle.campaign.specs.declared.Started.{Started}
-use Rattle.campaign.specs.declared.Verdict.the-variants as verdict
 use Rattle.trend.specs.Calls.{responseOutcome, summaryOutcome, countsOutcome}
 use Rattle.trend.specs.declared.Tally.{Tally}
 use Rattle.trend.specs.declared.Levels.{Levels}

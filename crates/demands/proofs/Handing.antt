@@ -1,23 +1,20 @@
 -- The record through the tables of a C caller: what a call hands back, written to them and read again, is the same, and they stay as long. Assumes
 -- nothing.
 use mathlib.Core.Path.{_≡_, refl, sym, ap, ap₂, _∙_}
-use mathlib.Core.Bool.{Bool, true, false, cond}
-use mathlib.Core.List.{List, [], _∷_}
+use mathlib.Core.List.{List}
 use Prim.Native.Nat.{ℕ, zero, suc, _≤_}
 use native.Mathlib.Omega.{arith}
-use lib.Dec.{eqb, ltb}
 use lib.IntN.{ℤ}
 use lib.ListN.{length, take, drop, length-set}
 use lib.Seq.{length-take-le, take-at}
 use Rattle.sums.specs.Lists.{put}
 use Rattle.sums.specs.Refusals.{first, answered}
 use Rattle.sums.proofs.Tables.{length-put}
-use Rattle.records.specs.Record.{standing, daysIn}
+use Rattle.records.specs.Record.{overloaded, dead, marked}
 use Rattle.records.specs.declared.Campaign.{Campaign}
-use Rattle.campaign.specs.Calls.{enterChecks, entered, railPlace, still, enterOutcome, withdrawChecks, withdrawOutcome}
-use Rattle.campaign.specs.declared.Entered.{Entered}
+use Rattle.campaign.specs.Calls.{enterOutcome, withdrawChecks, withdrawOutcome}
+use Rattle.campaign.proofs.EntryCases.{by-cases}
 use Rattle.campaign.specs.declared.Withdrawn.{Withdrawn}
-use Rattle.campaign.specs.declared.Verdict.the-variants as verdict
 use Rattle.meter.specs.Doors.{recordOf}
 
 take-put : {A : Type 0} (n : ℕ) (vs l : List A) → length vs ≡ n → take n (put vs l) ≡ vs
@@ -36,23 +33,19 @@ handed-same : (c : Campaign) → Handed c c
 handed-same c = record { order = refl; taps = refl; capacity = refl; days = refl; slots = refl }
 
 pub enter-handed : (c : Campaign) (store sums : List ℤ) (d : ℕ) (y : List ℤ) → Handed c (enterOutcome c store sums d y .0 .campaign)
-unfolding enterOutcome
 enter-handed c store sums d y =
-    judged (first (enterChecks c store sums d y)) (ltb (railPlace y) (length y)) (still y) (first ((12, eqb (daysIn c standing) (c .capacity)) ∷ [])) _ _ _
-    (record { order = refl; taps = refl; capacity = refl; days = length-set (c .days) _ _; slots = refl })
-    (record { order = refl; taps = refl; capacity = refl; days = length-set (c .days) _ _; slots = refl })
-    (record { order = refl; taps = refl; capacity = refl; days = length-set (c .days) _ _; slots = length-set (c .slots) _ _ })
+    by-cases c store sums d y (λ o. Handed c (o .0 .campaign))
+    (record {
+      refused = λ n _ _. handed-same c;
+      loud = λ _ p _. marks overloaded;
+      still = λ _ _. marks dead;
+      full = λ _ _ _. handed-same c;
+      kept = λ _ _ _.
+          record { order = refl; taps = refl; capacity = refl; days = length-set (c .days) _ _; slots = length-set (c .slots) _ _ };
+    })
   where
-    back : ℕ → Entered × List ℤ × List ℤ
-    back n = (entered c d (verdict.Refused n), store, sums)
-
-    judged : (n : ℕ) (a b : Bool) (m : ℕ) (o p k : Entered × List ℤ × List ℤ) → Handed c (o .0 .campaign) → Handed c (p .0 .campaign) → Handed c (k .0 .campaign)
-        → Handed c (answered n (λ n. (entered c d (verdict.Refused n), store, sums)) (cond a o (cond b p (answered m (λ n. (entered c d (verdict.Refused n), store, sums)) k))) .0 .campaign)
-    judged (suc n) a b m o p k x y z = handed-same c
-    judged zero true b m o p k x y z = x
-    judged zero false true m o p k x y z = y
-    judged zero false false (suc m) o p k x y z = handed-same c
-    judged zero false false zero o p k x y z = z
+    marks : (q : ℕ) → Handed c (marked c d q)
+    marks q = record { order = refl; taps = refl; capacity = refl; days = length-set (c .days) _ _; slots = refl }
 
 pub withdraw-handed : (c : Campaign) (store sums : List ℤ) (d : ℕ) → Handed c (withdrawOutcome c store sums d .0 .campaign)
 unfolding withdrawOutcome

@@ -5,25 +5,24 @@ use mathlib.Core.List.{List, [], _∷_}
 use Prim.Native.Nat.{ℕ, _+_, _*_, _≤_}
 use native.Mathlib.Omega.{arith}
 use borrow.Author.Tests.{ne-eqb}
-use lib.Dec.{T, eqb, ltb}
+use lib.Dec.{T, eqb}
 use lib.IntN.{ℤ}
 use lib.ListN.{length}
 use Rattle.sums.specs.Lists.{table, put}
-use Rattle.sums.specs.Refusals.{first, outcome}
+use Rattle.sums.specs.Refusals.{first}
 use Rattle.sums.proofs.First.{lacks, not-first, accepts, outcome-cases}
 use Rattle.register.specs.Register.{P}
 use Rattle.register.specs.Calls.{answerOf}
 use Rattle.samples.specs.Samples.{clearedWide, clearedTags}
-use Rattle.records.specs.Record.{standing, overloaded, dead, daysIn, together, fresh, marked}
-use Rattle.campaign.specs.Calls.{startChecks, enterChecks, withdrawChecks, railPlace, still, entered, keptOutcome, judgedOutcome, withdrawnOutcome, startOutcome, enterOutcome, withdrawOutcome, verdictNumber}
+use Rattle.records.specs.Record.{standing, daysIn, together, fresh}
+use Rattle.campaign.specs.Calls.{startChecks, enterAll, withdrawChecks, withdrawnOutcome, startOutcome, withdrawOutcome}
+use Rattle.campaign.proofs.EntryCases.{entry-first}
 use Rattle.trend.specs.Calls.{responseChecks, summaryChecks, tally, countsOutcome, responseOutcome, summaryOutcome, worked, meanAt, levelsOf, divisor, countsNumber, summaryNumber}
 use Rattle.trend.proofs.Enough.{answer-enough}
 use Rattle.history.specs.Run.{World, Call, start, enter, withdraw, counts, response, summary, answer}
 use Rattle.records.specs.declared.Campaign.{Campaign}
 use Rattle.campaign.specs.declared.Started.{Started}
-use Rattle.campaign.specs.declared.Entered.{Entered}
 use Rattle.campaign.specs.declared.Withdrawn.{Withdrawn}
-use Rattle.campaign.specs.declared.Verdict.the-variants as verdict
 use Rattle.trend.specs.declared.Counts.{Counts}
 use Rattle.trend.specs.declared.Counts.the-variants as counted
 use Rattle.trend.specs.declared.Summary.{Summary}
@@ -60,39 +59,15 @@ not-fifteen [] e t h = omega arith
 not-fifteen (check ∷ checks) e t h = not-first 15 checks t (sym (ap (λ x. cond x (check .0) (first checks)) e) ∙ h)
 
 module _ (w : World) (t : together (w .campaign) (w .store) (w .sums) ≡ true) where
-  judged-answer : (d : ℕ) (y : List ℤ) → verdictNumber (judgedOutcome (w .campaign) (w .store) (w .sums) d y .0 .entry .verdict) ≡ 15 → ⊥
-  judged-answer d y = by-rail (ltb (railPlace y) (length y)) (still y)
-    where
-      over : Entered × List ℤ × List ℤ
-      over = (entered (marked (w .campaign) d overloaded) d (verdict.Overloaded (railPlace y)), w .store, w .sums)
-
-      still-dead : Entered × List ℤ × List ℤ
-      still-dead = (entered (marked (w .campaign) d dead) d verdict.Dead, w .store, w .sums)
-
-      filing : Entered × List ℤ × List ℤ
-      filing =
-          outcome ((12, eqb (daysIn (w .campaign) standing) (w .campaign .capacity)) ∷ []) (λ m. (entered (w .campaign) d (verdict.Refused m), w .store, w .sums))
-          (keptOutcome (w .campaign) (w .store) (w .sums) d y)
-
-      by-rail : (a b : Bool) → verdictNumber (cond a over (cond b still-dead filing) .0 .entry .verdict) ≡ 15 → ⊥
-      by-rail true b e = omega arith
-      by-rail false true e = omega arith
-      by-rail false false e =
-          outcome-cases ((12, eqb (daysIn (w .campaign) standing) (w .campaign .capacity)) ∷ []) tt (λ m. (entered (w .campaign) d (verdict.Refused m), w .store, w .sums))
-          (keptOutcome (w .campaign) (w .store) (w .sums) d y) (λ o. verdictNumber (o .0 .entry .verdict) ≡ 15 → ⊥)
-          (λ n _ h g. not-first 15 ((12, eqb (daysIn (w .campaign) standing) (w .campaign .capacity)) ∷ []) tt (h ∙ g)) (λ _ g. omega arith) e
-
   pub never-fifteen : (call : Call) → answer w call ≡ 15 → ⊥
-  unfolding startOutcome enterOutcome withdrawOutcome countsOutcome responseOutcome summaryOutcome
+  unfolding startOutcome withdrawOutcome countsOutcome responseOutcome summaryOutcome
   never-fifteen (start N taps C) =
       outcome-cases {A = Started × List ℤ × List ℤ} (startChecks N taps C (w .store) (w .sums)) tt
       (λ n. (record { answer = answerOf N taps n; campaign = w .campaign }, w .store, w .sums))
       (record { answer = answerOf N taps 0; campaign = fresh N taps C }, clearedWide (C * P N) (w .store), clearedWide (P N) (w .sums)) (λ o. o .0 .answer .number ≡ 15 → ⊥)
       (λ n _ h g. not-first 15 (startChecks N taps C (w .store) (w .sums)) tt (h ∙ g)) (λ _ g. omega arith)
   never-fifteen (enter d y) =
-      outcome-cases {A = Entered × List ℤ × List ℤ} (enterChecks (w .campaign) (w .store) (w .sums) d y) tt
-      (λ n. (entered (w .campaign) d (verdict.Refused n), w .store, w .sums)) (judgedOutcome (w .campaign) (w .store) (w .sums) d y) (λ o. verdictNumber (o .0 .entry .verdict) ≡ 15 → ⊥)
-      (λ n _ h g. not-fifteen (enterChecks (w .campaign) (w .store) (w .sums) d y) (ap not t) tt (h ∙ g)) (λ _. judged-answer d y)
+      λ h. not-fifteen (enterAll (w .campaign) (w .store) (w .sums) d y) (ap not t) tt (sym (entry-first (w .campaign) (w .store) (w .sums) d y) ∙ h)
   never-fifteen (withdraw d) =
       outcome-cases {A = Withdrawn × List ℤ × List ℤ} (withdrawChecks (w .campaign) (w .store) (w .sums) d) tt
       (λ n. (record { answer = n; campaign = w .campaign }, w .store, w .sums)) (withdrawnOutcome (w .campaign) (w .store) (w .sums) d) (λ o. o .0 .answer ≡ 15 → ⊥)

@@ -8,22 +8,22 @@ use Prim.Native.Nat.{ℕ, zero, suc, _+_, _-_, _<_}
 use native.Mathlib.Decide.{ℕ-discrete}
 use native.Mathlib.Omega.{arith}
 use borrow.Author.Tests.{eq-eqb, ne-eqb, eqb-true}
-use lib.Dec.{T, eqb, ltb}
+use lib.Dec.{T, eqb}
 use lib.IntN.{ℤ, pos}
 use lib.ListN.{length}
 use Rattle.sums.specs.Lists.{at, many}
-use Rattle.sums.specs.Refusals.{first, answered}
+use Rattle.sums.specs.Refusals.{first}
 use Rattle.sums.proofs.First.{refused-first, passed-first, accepts, outcome-cases}
 use Rattle.sums.proofs.Sum.{sum-ext, total-changed}
 use Rattle.register.specs.Register.{P}
 use Rattle.samples.specs.Samples.{lengthOff, someOut}
-use Rattle.records.specs.Record.{standing, overloaded, dead, withdrawn, state, stands, daysIn, together, marked}
-use Rattle.campaign.specs.Calls.{dayOut, enterChecks, withdrawChecks, railPlace, still, entered, keptOutcome, judgedOutcome, withdrawnOutcome, enterOutcome, withdrawOutcome, verdictNumber}
+use Rattle.finding.specs.Finding.{finding}
+use Rattle.records.specs.Record.{standing, withdrawn, state, stands, daysIn, together}
+use Rattle.campaign.specs.Calls.{dayOut, withdrawChecks, withdrawnOutcome, enterOutcome, withdrawOutcome, keeps}
+use Rattle.campaign.proofs.EntryCases.{entry-first}
 use Rattle.history.specs.Run.{World, Call, start, enter, withdraw, counts, response, summary, after, answer, accepted, run, starts, underWay, begun, names, makes, made, recording, heard, Elsewhere}
 use Rattle.records.specs.declared.Campaign.{Campaign}
-use Rattle.campaign.specs.declared.Entered.{Entered}
 use Rattle.campaign.specs.declared.Withdrawn.{Withdrawn}
-use Rattle.campaign.specs.declared.Verdict.the-variants as verdict
 use Rattle.records.proofs.Holding.{holds-together}
 use Rattle.records.proofs.Tallying.{standing-most}
 use Rattle.records.proofs.Refiling.{Day, day}
@@ -40,36 +40,13 @@ use Rattle.history.proofs.EveryRun.{sums-are}
 abbrev early : Campaign → ℕ → List ℤ → List (ℕ × Bool)
 early c d y = (10, dayOut d) ∷ (5, lengthOff (P (c .order)) y) ∷ (7, someOut (length y) (at y)) ∷ (11, stands c d) ∷ []
 
-abbrev keeps : List ℤ → Bool
-keeps y = not (ltb (railPlace y) (length y)) && not (still y)
-
 abbrev full : Campaign → List ℤ → List (ℕ × Bool)
-full c y = (12, keeps y && eqb (daysIn c standing) (c .capacity)) ∷ []
+full c y = (12, keeps (finding y) && eqb (daysIn c standing) (c .capacity)) ∷ []
 
 enter-answer : (w : World) → together (w .campaign) (w .store) (w .sums) ≡ true → (d : ℕ) (y : List ℤ)
     → answer w (enter d y) ≡ first (early (w .campaign) d y ++ full (w .campaign) y)
-unfolding enterOutcome
 enter-answer w t d y =
-    outcome-cases {A = Entered × List ℤ × List ℤ} (enterChecks (w .campaign) (w .store) (w .sums) d y) tt
-    (λ n. (entered (w .campaign) d (verdict.Refused n), w .store, w .sums)) (judgedOutcome (w .campaign) (w .store) (w .sums) d y)
-    (λ o. verdictNumber (o .0 .entry .verdict) ≡ first (early (w .campaign) d y ++ full (w .campaign) y))
-    (λ n h e. let g = sym (ap (λ b. cond (not b) 15 (first (early (w .campaign) d y))) t) ∙ e in
-    sym (refused-first (early (w .campaign) d y) (full (w .campaign) y) (λ z. h (sym g ∙ z)) ∙ g))
-    (λ p. judged (ltb (railPlace y) (length y)) (still y) (eqb (daysIn (w .campaign) standing) (w .campaign .capacity))
-    ∙ sym (passed-first (early (w .campaign) d y) (full (w .campaign) y) tt (accepts (early (w .campaign) d y) (p .1))))
-  where
-    refusal : ℕ → Entered × List ℤ × List ℤ
-    refusal n = (entered (w .campaign) d (verdict.Refused n), w .store, w .sums)
-
-    judged : (a b e : Bool)
-        → verdictNumber (cond a (entered (marked (w .campaign) d overloaded) d (verdict.Overloaded (railPlace y)), w .store, w .sums)
-        (cond b (entered (marked (w .campaign) d dead) d verdict.Dead, w .store, w .sums)
-        (answered (first ((12, e) ∷ [])) refusal (keptOutcome (w .campaign) (w .store) (w .sums) d y))) .0 .entry .verdict)
-        ≡ first ((12, (not a && not b) && e) ∷ [])
-    judged true b e = refl
-    judged false true e = refl
-    judged false false true = refl
-    judged false false false = refl
+    entry-first (w .campaign) (w .store) (w .sums) d y ∙ ap (λ b. cond (not b) 15 (first (early (w .campaign) d y ++ full (w .campaign) y))) t
 
 withdraw-answer : (w : World) → together (w .campaign) (w .store) (w .sums) ≡ true → (d : ℕ)
     → answer w (withdraw d) ≡ first ((10, dayOut d) ∷ (13, not (stands (w .campaign) d)) ∷ [])
@@ -173,9 +150,9 @@ module _ (w₀ : World) (cs : List Call) (started : underWay w₀ cs ≡ true) (
         and-none false = refl
 
         passed : first (early campaign-b e z) ≡ 0 → first (full campaign-a z) ≡ 0
-        passed q = go (keeps z && eqb (daysIn campaign-a standing) (campaign-a .capacity)) refl
+        passed q = go (keeps (finding z) && eqb (daysIn campaign-a standing) (campaign-a .capacity)) refl
           where
-            go : (k : Bool) → keeps z && eqb (daysIn campaign-a standing) (campaign-a .capacity) ≡ k → first ((12, k) ∷ []) ≡ 0
+            go : (k : Bool) → keeps (finding z) && eqb (daysIn campaign-a standing) (campaign-a .capacity) ≡ k → first ((12, k) ∷ []) ≡ 0
             go false g = refl
             go true g =
                 absurd (twelve (enter-answer (run w₀ a) (holds (s .onward-a)) e z ∙ passed-first (early campaign-a e z) (full campaign-a z) tt (ap first alike ∙ q) ∙ ap (λ k. first ((12, k) ∷ [])) g))
@@ -183,7 +160,7 @@ module _ (w₀ : World) (cs : List Call) (started : underWay w₀ cs ≡ true) (
         lists : (n : ℕ) → first (early campaign-b e z) ≡ n → first (early campaign-a e z ++ full campaign-a z) ≡ first (early campaign-b e z ++ full campaign-b z)
         lists zero q =
             passed-first (early campaign-a e z) (full campaign-a z) tt (ap first alike ∙ q) ∙ passed q
-            ∙ sym (passed-first (early campaign-b e z) (full campaign-b z) tt q ∙ ap (λ k. first ((12, k) ∷ [])) (ap (λ k. keeps z && k) room ∙ and-none (keeps z)))
+            ∙ sym (passed-first (early campaign-b e z) (full campaign-b z) tt q ∙ ap (λ k. first ((12, k) ∷ [])) (ap (λ k. keeps (finding z) && k) room ∙ and-none (keeps (finding z))))
         lists (suc n) q =
             refused-first (early campaign-a e z) (full campaign-a z) (λ g. omega (arith, sym (ap first alike ∙ q) ∙ g)) ∙ ap first alike
             ∙ sym (refused-first (early campaign-b e z) (full campaign-b z) (λ g. omega (arith, sym q ∙ g)))

@@ -1,4 +1,5 @@
--- Document 01, "Numbers to hold it to" and the log example, computed from the outcome functions: order 3, taps 3. Assumes nothing.
+-- Document 01, "Numbers to hold it to" and the log example, the samples of its day 1 times 4 as request 2 of document 02 has it, computed from
+-- the outcome functions: order 3, taps 3. Assumes nothing.
 use mathlib.Core.Path.{_≡_, refl}
 use mathlib.Core.List.{List, [], _∷_}
 use mathlib.Core.Bool.{Bool, true, false}
@@ -12,6 +13,7 @@ use Rattle.register.specs.Register.{dot, step, window, bit, wave, period}
 use Rattle.register.specs.Calls.{tapsAnswer}
 use Rattle.response.specs.Response as formula
 use Rattle.rounding.specs.Rounding.{nearest, rounded}
+use Rattle.finding.specs.Finding.{finding}
 use Rattle.records.specs.Record.{standing, overloaded, dead, state, together, fresh, filed}
 use Rattle.campaign.specs.Calls.{enterOutcome, withdrawOutcome}
 use Rattle.trend.specs.Calls.{responseOutcome}
@@ -47,22 +49,22 @@ pub record Entries : Type 0 where
   pub overloads : verdict (of 2) 1 (with (pos 8388607)) ≡ Overloaded 0
   pub overloads-low : verdict (of 2) 1 (pos 0 ∷ negsuc 8388607 ∷ replicate 5 (pos 0)) ≡ Overloaded 1
   -- no night is dropped without a word: its day says what became of it
-  pub kept-marked : leaves (of 2) 1 (with (pos 1)) ≡ standing
+  pub kept-marked : leaves (of 2) 1 (with (pos 8)) ≡ standing
   pub overload-marked : leaves (of 2) 1 (with (pos 8388607)) ≡ overloaded
-  pub dead-marked : leaves (of 2) 1 (replicate 7 (pos 5)) ≡ dead
+  pub dead-marked : leaves (of 2) 1 (with (pos 7)) ≡ dead
   pub out-of-range : verdict (of 2) 1 (with (pos 8388608)) ≡ Refused 7
-  pub day-0 : verdict (of 2) 0 (with (pos 1)) ≡ Refused 10
-  pub day-367 : verdict (of 2) 367 (with (pos 1)) ≡ Refused 10
-  pub day-366 : verdict (of 2) 366 (with (pos 1)) ≡ Kept 0
+  pub day-0 : verdict (of 2) 0 (with (pos 8)) ≡ Refused 10
+  pub day-367 : verdict (of 2) 367 (with (pos 8)) ≡ Refused 10
+  pub day-366 : verdict (of 2) 366 (with (pos 8)) ≡ Kept 0
   pub six-samples : verdict (of 2) 1 (replicate 6 (pos 0)) ≡ Refused 5
-  pub again : verdict (after (of 2) (enter 1 (with (pos 1)))) 1 (with (pos 1)) ≡ Refused 11
+  pub again : verdict (after (of 2) (enter 1 (with (pos 8)))) 1 (with (pos 8)) ≡ Refused 11
   -- a dead day needs no slot when all are used, nor does an overloaded one
-  pub no-slot : verdict (after (of 1) (enter 1 (with (pos 1)))) 2 (with (pos 1)) ≡ Refused 12
-  pub dead-all-used : verdict (after (of 1) (enter 1 (with (pos 1)))) 2 (replicate 7 (pos 5)) ≡ Dead
-  pub loud-all-used : verdict (after (of 1) (enter 1 (with (pos 1)))) 2 (with (pos 8388607)) ≡ Overloaded 0
+  pub no-slot : verdict (after (of 1) (enter 1 (with (pos 8)))) 2 (with (pos 8)) ≡ Refused 12
+  pub dead-all-used : verdict (after (of 1) (enter 1 (with (pos 8)))) 2 (with (pos 7)) ≡ Dead
+  pub loud-all-used : verdict (after (of 1) (enter 1 (with (pos 8)))) 2 (with (pos 8388607)) ≡ Overloaded 0
 
 pub entries : Entries
-unfolding enterOutcome together tapsAnswer period seek some every many total sum table put putAt window step dot ones
+unfolding enterOutcome finding together tapsAnswer period seek some every many total sum table put putAt window step dot ones
 entries =
     record {
       may-stand = refl;
@@ -107,7 +109,7 @@ in-a-slot =
 -- ---- the log example
 
 abbrev day-1 : List ℤ
-day-1 = negsuc 0 ∷ negsuc 2 ∷ negsuc 0 ∷ pos 3 ∷ pos 3 ∷ negsuc 2 ∷ pos 1 ∷ []
+day-1 = negsuc 3 ∷ negsuc 11 ∷ negsuc 3 ∷ pos 12 ∷ pos 12 ∷ negsuc 11 ∷ pos 4 ∷ []
 
 abbrev day-2 : List ℤ
 day-2 = replicate 7 (pos 5)
@@ -121,8 +123,8 @@ pub record LogExample : Type 0 where
   pub response : asked (run (of 2) (enter 2 day-2 ∷ enter 1 day-1 ∷ []))
       ≡ (
         0,
-        pos 16 ∷ pos 0 ∷ negsuc 7 ∷ pos 0 ∷ pos 0 ∷ pos 0 ∷ pos 0 ∷ [],
-        pos 2 ∷ pos 0 ∷ negsuc 0 ∷ pos 0 ∷ pos 0 ∷ pos 0 ∷ pos 0 ∷ [],
+        pos 64 ∷ pos 0 ∷ negsuc 31 ∷ pos 0 ∷ pos 0 ∷ pos 0 ∷ pos 0 ∷ [],
+        pos 8 ∷ pos 0 ∷ negsuc 3 ∷ pos 0 ∷ pos 0 ∷ pos 0 ∷ pos 0 ∷ [],
         replicate 8 (pos 0),
         replicate 7 0,
       )
@@ -131,5 +133,5 @@ pub record LogExample : Type 0 where
       ≡ (14, replicate 7 (pos 9), replicate 7 (pos 9), replicate 8 (pos 9), replicate 7 9)
 
 pub log-example : LogExample
-unfolding run enterOutcome withdrawOutcome responseOutcome together tapsAnswer period seek some every many total sum sign table put putAt nearest formula.response formula.correlation wave bit window step dot ones
+unfolding run enterOutcome finding withdrawOutcome responseOutcome together tapsAnswer period seek some every many total sum sign table put putAt nearest formula.response formula.correlation wave bit window step dot ones
 log-example = record { kept = refl; dead = refl; response = refl; withdrawal = refl; nothing = refl }

@@ -14,6 +14,7 @@ use Rattle.register.specs.Calls.{tapsChecks, tapsAnswer, sequenceChecks, sequen
 use Rattle.player.specs.Calls.{stepChecks, newOutcome, stepOutcome, playOutcome, newNumber, tickNumber}
 use Rattle.response.proofs.Order as response
 use Rattle.prediction.proofs.Order as prediction
+use Rattle.finding.specs.Finding.{finding}
 use Rattle.records.specs.Record.{standing, together, fresh, filed}
 use Rattle.campaign.specs.Calls.{startChecks, startOutcome, enterChecks, enterOutcome, withdrawChecks, withdrawOutcome}
 use Rattle.trend.specs.Calls.{responseChecks, responseOutcome, summaryChecks, summaryOutcome, summaryNumber}
@@ -82,12 +83,15 @@ registers =
 abbrev started : ℕ → ℕ → ℕ → ℕ → ℕ → ℕ
 started N taps C store sums = startOutcome (fresh 2 3 1) N taps C (replicate store (pos 9)) (replicate sums (pos 9)) .0 .answer .number
 
--- zeros; and a recording that may stand
+-- zeros; a recording that may just stand; and one that is dead and not constant
 abbrev zeros : List ℤ
 zeros = replicate 3 (pos 0)
 
-abbrev quiet : List ℤ
-quiet = pos 1 ∷ pos 0 ∷ pos 0 ∷ []
+abbrev barely : List ℤ
+barely = pos 8 ∷ pos 0 ∷ pos 0 ∷ []
+
+abbrev dithers : List ℤ
+dithers = pos 7 ∷ pos 0 ∷ pos 3 ∷ []
 
 abbrev with : ℤ → List ℤ
 with z = z ∷ pos 0 ∷ pos 0 ∷ []
@@ -100,10 +104,10 @@ abbrev empty : ℕ → List ℤ → Verdict
 empty = entry-to (fresh 2 3 1) zeros zeros
 
 abbrev apart : ℕ → List ℤ → Verdict
-apart = entry-to (fresh 2 3 1) zeros quiet
+apart = entry-to (fresh 2 3 1) zeros barely
 
 abbrev full : ℕ → List ℤ → Verdict
-full = entry-to (filed (fresh 2 3 1) 1 standing 0 1) quiet quiet
+full = entry-to (filed (fresh 2 3 1) 1 standing 0 1) barely barely
 
 -- the other calls on the first two, told by their sums
 abbrev withdrew : List ℤ → ℕ → ℕ
@@ -124,26 +128,26 @@ pub record Campaigns : Type 0 where
   pub start-4-9 : started 2 1 0 3 3 ≡ 4
   pub start-9-6 : (started 2 3 65 3 3 ≡ 9) × (started 2 3 0 3 2 ≡ 9)
   pub enter : (c : Campaign) (store sums : List ℤ) (d : ℕ) (y : List ℤ) → numbers (enterChecks c store sums d y) ≡ 15 ∷ 10 ∷ 5 ∷ 7 ∷ 11 ∷ []
-  pub enter-15-10 : apart 0 quiet ≡ Refused 15
+  pub enter-15-10 : apart 0 barely ≡ Refused 15
   pub enter-10-5 : empty 0 (pos 1 ∷ []) ≡ Refused 10
   pub enter-5-7 : empty 2 (pos 8388608 ∷ []) ≡ Refused 5
   pub enter-7-11 : full 1 (with (pos 8388608)) ≡ Refused 7
-  pub enter-11-verdict : (full 1 (with (pos 8388607)) ≡ Refused 11) × (full 1 zeros ≡ Refused 11)
-  pub overloaded-dead : empty 2 (replicate 3 (pos 8388607)) ≡ Overloaded 0
-  pub enter-verdict-12 : (full 2 (with (pos 8388607)) ≡ Overloaded 0) × (full 2 zeros ≡ Dead) × (full 2 quiet ≡ Refused 12)
+  pub enter-11-verdict : (full 1 (with (pos 8388607)) ≡ Refused 11) × (full 1 dithers ≡ Refused 11)
+  pub overloaded-dead : (empty 2 (replicate 3 (pos 8388607)) ≡ Overloaded 0) × (empty 2 (pos 8388600 ∷ pos 8388607 ∷ pos 8388603 ∷ []) ≡ Overloaded 1)
+  pub enter-verdict-12 : (full 2 (with (pos 8388607)) ≡ Overloaded 0) × (full 2 dithers ≡ Dead) × (full 2 barely ≡ Refused 12)
   pub withdraw : (c : Campaign) (store sums : List ℤ) (d : ℕ) → numbers (withdrawChecks c store sums d) ≡ 15 ∷ 10 ∷ 13 ∷ []
-  pub withdraw-15-10 : withdrew quiet 0 ≡ 15
+  pub withdraw-15-10 : withdrew barely 0 ≡ 15
   pub withdraw-10-13 : withdrew zeros 0 ≡ 10
   pub response : (c : Campaign) (store sums r mean room : List ℤ) (tags : List ℕ)
       → numbers (responseChecks c store sums r mean room tags) ≡ 15 ∷ 6 ∷ 14 ∷ []
-  pub response-15-6 : responded quiet 2 3 4 3 ≡ 15
+  pub response-15-6 : responded barely 2 3 4 3 ≡ 15
   pub response-6-14 : (responded zeros 2 3 4 3 ≡ 6) × (responded zeros 3 2 4 3 ≡ 6) × (responded zeros 3 3 3 3 ≡ 6) × (responded zeros 3 3 4 2 ≡ 6)
   pub summary : (c : Campaign) (store sums room : List ℤ) (tags : List ℕ) → numbers (summaryChecks c store sums room tags) ≡ 15 ∷ 6 ∷ []
-  pub summary-15-6 : summed quiet 3 3 ≡ 15
+  pub summary-15-6 : summed barely 3 3 ≡ 15
   pub summary-6-nothing : (summed zeros 3 3 ≡ 6) × (summed zeros 4 2 ≡ 6) × (summed zeros 4 3 ≡ 0)
 
 pub campaigns : Campaigns
-unfolding startOutcome enterOutcome withdrawOutcome responseOutcome summaryOutcome together tapsAnswer period seek some every many total sum table put putAt window step dot ones
+unfolding startOutcome enterOutcome finding withdrawOutcome responseOutcome summaryOutcome together tapsAnswer period seek some every many total sum table put putAt window step dot ones
 campaigns =
     record {
       start = λ N taps C store sums. refl;
@@ -158,7 +162,7 @@ campaigns =
       enter-5-7 = refl;
       enter-7-11 = refl;
       enter-11-verdict = (refl, refl);
-      overloaded-dead = refl;
+      overloaded-dead = (refl, refl);
       enter-verdict-12 = (refl, refl, refl);
       withdraw = λ c store sums d. refl;
       withdraw-15-10 = refl;

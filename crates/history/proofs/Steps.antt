@@ -1,34 +1,31 @@
 -- What a start comes to, and an entry and a withdrawal where the record holds together, case by case; and the number that each answers as one
 -- list of checks. Assumes nothing.
-use mathlib.Core.Path.{_≡_, refl}
-use mathlib.Core.Bool.{Bool, true, false, cond}
-use mathlib.Core.List.{List, [], _∷_}
+use mathlib.Core.Path.{_≡_, refl, ap}
+use mathlib.Core.Bool.{true}
+use mathlib.Core.List.{List}
 use Prim.Native.Nat.{ℕ, _*_, _≤_, _<_}
 use native.Mathlib.Omega.{arith}
-use borrow.Author.Tests.{ltb-false, eqb-true, eqb-false, not-false}
-use lib.Dec.{eqb, ltb}
+use borrow.Author.Tests.{eqb-true, eqb-false, not-false}
 use lib.IntN.{ℤ, pos, _+ℤ_, _-ℤ_}
 use lib.ListN.{length}
 use Rattle.sums.specs.Lists.{at, table, put, putAt}
-use Rattle.sums.specs.Refusals.{outcome}
-use Rattle.sums.proofs.First.{outcome-cases, accepts}
-use Rattle.sums.proofs.Seek.{seek-first}
-use Rattle.sums.proofs.Somewhere.{none-of}
+use Rattle.sums.proofs.First.{Passed, outcome-cases, accepts}
 use Rattle.register.specs.Register.{P}
 use Rattle.register.specs.Calls.{answerOf}
-use Rattle.samples.specs.Samples.{sampleOut, someOut, clearedWide, inside, rail}
-use Rattle.records.specs.Record.{standing, overloaded, dead, withdrawn, state, daysIn, slot, base, sample, together, fresh, marked, filed}
-use Rattle.campaign.specs.Calls.{startChecks, startOutcome, enterChecks, withdrawChecks, railPlace, still, entered, lowestFree, slotOfDay, keptOutcome, judgedOutcome, withdrawnOutcome, enterOutcome, withdrawOutcome, verdictNumber}
+use Rattle.samples.specs.Samples.{clearedWide, inside}
+use Rattle.finding.specs.Finding.{finding}
+use Rattle.records.specs.Record.{standing, overloaded, dead, withdrawn, state, slot, base, sample, together, fresh, marked, filed}
+use Rattle.campaign.specs.Calls.{startChecks, startOutcome, enterChecks, withdrawChecks, lowestFree, slotOfDay, withdrawnOutcome, enterOutcome, withdrawOutcome, stateOf, verdictNumber}
 use Rattle.history.specs.Run.{World}
 use Rattle.records.specs.declared.Campaign.{Campaign}
 use Rattle.campaign.specs.declared.Started.{Started}
 use Rattle.campaign.specs.declared.Entered.{Entered}
 use Rattle.campaign.specs.declared.Withdrawn.{Withdrawn}
-use Rattle.campaign.specs.declared.Verdict.the-variants as verdict
+use Rattle.campaign.proofs.EntryCases.{by-cases}
 use Rattle.campaign.proofs.Passing.{Begins, begins, in-day, lowest-free, slot-of-day}
-use Rattle.records.proofs.Holding.{Filed, holds-together}
+use Rattle.records.proofs.Holding.{holds-together}
 use Rattle.records.proofs.Refiling.{Day}
-use Rattle.samples.proofs.Rails.{between}
+use Rattle.finding.proofs.Exactly.{kept-inside}
 
 -- ---- a start
 
@@ -50,10 +47,10 @@ starting w N taps C =
 -- what it comes to: refused, set aside, or kept
 pub data Entering (w : World) (d : ℕ) (y : List ℤ) (o : Entered × List ℤ × List ℤ) : Type 0 where
   refused : (verdictNumber (o .0 .entry .verdict) ≡ 0 → ⊥) → o .0 .campaign ≡ w .campaign → o .1 ≡ w .store → o .2 ≡ w .sums → Entering w d y o
-  aside : (q : ℕ) → verdictNumber (o .0 .entry .verdict) ≡ 0 → cond (ltb (railPlace y) (length y)) overloaded (cond (still y) dead standing) ≡ q
+  aside : (q : ℕ) → verdictNumber (o .0 .entry .verdict) ≡ 0 → stateOf (finding y) ≡ q
       → (q ≡ standing → ⊥) → q ≤ withdrawn → Day d → (state (w .campaign) d ≡ standing → ⊥)
       → o .0 .campaign ≡ marked (w .campaign) d q → o .1 ≡ w .store → o .2 ≡ w .sums → Entering w d y o
-  kept : (k : ℕ) → verdictNumber (o .0 .entry .verdict) ≡ 0 → cond (ltb (railPlace y) (length y)) overloaded (cond (still y) dead standing) ≡ standing
+  kept : (k : ℕ) → verdictNumber (o .0 .entry .verdict) ≡ 0 → stateOf (finding y) ≡ standing
       → Day d → (state (w .campaign) d ≡ standing → ⊥) → k < w .campaign .capacity → slot (w .campaign) k ≡ 0
       → length y ≡ P (w .campaign .order) → ((j : ℕ) → j < P (w .campaign .order) → inside (at y j) ≡ true)
       → o .0 .campaign ≡ filed (w .campaign) d standing k d → o .1 ≡ putAt (base (w .campaign) k) y (w .store)
@@ -61,51 +58,28 @@ pub data Entering (w : World) (d : ℕ) (y : List ℤ) (o : Entered × List ℤ 
 
 pub entering : (w : World) (d : ℕ) (y : List ℤ) → together (w .campaign) (w .store) (w .sums) ≡ true
     → Entering w d y (enterOutcome (w .campaign) (w .store) (w .sums) d y)
-unfolding enterOutcome
 entering w d y t =
-    outcome-cases (enterChecks c (w .store) (w .sums) d y) tt (λ n. (entered c d (verdict.Refused n), w .store, w .sums)) (judgedOutcome c (w .store) (w .sums) d y)
-    (Entering w d y) (λ n h _. refused h refl refl refl)
-    (λ p. judged (in-day d (p .1 .0)) (eqb-true (length y) (P (c .order)) (not-false _ (p .1 .1 .0))) (p .1 .1 .1 .0) (eqb-false (state c d) standing (p .1 .1 .1 .1 .0)))
+    by-cases c (w .store) (w .sums) d y (Entering w d y)
+    (record {
+      refused = λ n h _. refused h refl refl refl;
+      loud = λ p q e. aside overloaded refl (ap stateOf e) (λ x. omega arith) (omega arith) (day p) (down p) refl refl refl;
+      still = λ p e. aside dead refl (ap stateOf e) (λ x. omega arith) (omega arith) (day p) (down p) refl refl refl;
+      full = λ p e f. refused (λ x. omega arith) refl refl refl;
+      kept = λ p e few.
+          let k = lowest-free c (holds-together c (w .store) (w .sums) .0 t .filed) few in
+          let long = eqb-true (length y) (P (c .order)) (not-false _ (p .1 .1 .0)) in
+          kept (lowestFree c) refl (ap stateOf e) (day p) (down p) (k .0) (k .1) long
+          (λ j l. kept-inside y e (p .1 .1 .1 .0) j (omega (arith, long))) refl refl refl;
+    })
   where
     c : Campaign
     c = w .campaign
 
-    judged : Day d → length y ≡ P (w .campaign .order) → someOut (length y) (at y) ≡ false → (state (w .campaign) d ≡ standing → ⊥)
-        → Entering w d y (judgedOutcome (w .campaign) (w .store) (w .sums) d y)
-    judged r long range n = by-rail (ltb (railPlace y) (length y)) refl
-      where
-        f : Filed (w .campaign)
-        f = holds-together (w .campaign) (w .store) (w .sums) .0 t .filed
+    day : Passed (enterChecks (w .campaign) (w .store) (w .sums) d y) → Day d
+    day p = in-day d (p .1 .0)
 
-        keep : ltb (railPlace y) (length y) ≡ false → still y ≡ false → (daysIn (w .campaign) standing ≡ w .campaign .capacity → ⊥)
-            → Entering w d y (keptOutcome (w .campaign) (w .store) (w .sums) d y)
-        keep e g few =
-            let k = lowest-free (w .campaign) f few in
-            let rails = seek-first (λ j. rail (at y j)) (length y) 0 in
-            let none = ltb-false (railPlace y) (length y) e in
-            kept (lowestFree (w .campaign)) refl (simp (e, g)) r n (k .0) (k .1) long
-            (λ j l. between (at y j) (none-of (λ i. sampleOut (at y i)) (length y) range j (omega arith)) (rails .before j (omega arith) (omega arith)))
-            refl refl refl
-
-        by-full : ltb (railPlace y) (length y) ≡ false → still y ≡ false
-            → Entering w d y (outcome ((12, eqb (daysIn (w .campaign) standing) (w .campaign .capacity)) ∷ []) (λ m. (entered (w .campaign) d (verdict.Refused m), w .store, w .sums)) (keptOutcome (w .campaign) (w .store) (w .sums) d y))
-        by-full e g =
-            outcome-cases ((12, eqb (daysIn (w .campaign) standing) (w .campaign .capacity)) ∷ []) tt (λ m. (entered (w .campaign) d (verdict.Refused m), w .store, w .sums))
-            (keptOutcome (w .campaign) (w .store) (w .sums) d y) (Entering w d y) (λ m h _. refused h refl refl refl)
-            (λ p. keep e g (eqb-false (daysIn (w .campaign) standing) (w .campaign .capacity) (p .0)))
-
-        by-still : ltb (railPlace y) (length y) ≡ false → (b : Bool) → still y ≡ b
-            → Entering w d y (cond b (entered (marked (w .campaign) d dead) d verdict.Dead, w .store, w .sums)
-            (outcome ((12, eqb (daysIn (w .campaign) standing) (w .campaign .capacity)) ∷ []) (λ m. (entered (w .campaign) d (verdict.Refused m), w .store, w .sums)) (keptOutcome (w .campaign) (w .store) (w .sums) d y)))
-        by-still e true g = aside dead refl (simp (e, g)) (λ x. omega arith) (omega arith) r n refl refl refl
-        by-still e false g = by-full e g
-
-        by-rail : (b : Bool) → ltb (railPlace y) (length y) ≡ b
-            → Entering w d y (cond b (entered (marked (w .campaign) d overloaded) d (verdict.Overloaded (railPlace y)), w .store, w .sums)
-            (cond (still y) (entered (marked (w .campaign) d dead) d verdict.Dead, w .store, w .sums)
-            (outcome ((12, eqb (daysIn (w .campaign) standing) (w .campaign .capacity)) ∷ []) (λ m. (entered (w .campaign) d (verdict.Refused m), w .store, w .sums)) (keptOutcome (w .campaign) (w .store) (w .sums) d y))))
-        by-rail true e = aside overloaded refl (simp e) (λ x. omega arith) (omega arith) r n refl refl refl
-        by-rail false e = by-still e (still y) refl
+    down : Passed (enterChecks (w .campaign) (w .store) (w .sums) d y) → state (w .campaign) d ≡ standing → ⊥
+    down p = eqb-false (state (w .campaign) d) standing (p .1 .1 .1 .1 .0)
 
 -- ---- a withdrawal
 

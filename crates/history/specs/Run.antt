@@ -5,11 +5,11 @@ use mathlib.Core.Path.{_≡_}
 use mathlib.Core.List.{List, [], _∷_, _++_}
 use mathlib.Core.Bool.{Bool, true, false, cond, _&&_, _||_}
 use Prim.Native.Nat.{ℕ}
-use lib.Dec.{eqb, ltb}
+use lib.Dec.{eqb}
 use lib.IntN.{ℤ}
-use lib.ListN.{length}
-use Rattle.records.specs.Record.{unseen, standing, overloaded, dead, withdrawn, fresh}
-use Rattle.campaign.specs.Calls.{railPlace, still, startOutcome, enterOutcome, withdrawOutcome, verdictNumber}
+use Rattle.finding.specs.Finding.{finding}
+use Rattle.records.specs.Record.{unseen, withdrawn, fresh}
+use Rattle.campaign.specs.Calls.{startOutcome, enterOutcome, withdrawOutcome, stateOf, verdictNumber}
 use Rattle.trend.specs.Calls.{countsOutcome, responseOutcome, summaryOutcome, countsNumber, summaryNumber}
 use Rattle.records.specs.declared.Campaign.{Campaign}
 
@@ -103,7 +103,7 @@ names (summary room tags) d = false
 -- what an accepted call makes of the day that it names
 abbrev pub makes : Call → ℕ
 makes (start N taps C) = unseen
-makes (enter d y) = cond (ltb (railPlace y) (length y)) overloaded (cond (still y) dead standing)
+makes (enter d y) = stateOf (finding y)
 makes (withdraw d) = withdrawn
 makes counts = unseen
 makes (response r mean room tags) = unseen

@@ -1,5 +1,5 @@
--- Document 01, the example of "The log program": its bytes, and the lines that the program prints for them, by computation; and logs whose start is
--- refused with 4, whose one line tells the period. Assumes nothing.
+-- Document 01, the example of "The log program", the samples of its day 1 times 4 as request 2 of document 02 has it: its bytes, and the lines that the
+-- program prints for them, by computation; and logs whose start is refused with 4, whose one line tells the period. Assumes nothing.
 use mathlib.Core.Path.{_≡_, refl}
 use mathlib.Core.List.{List, [], _∷_, _++_}
 use Prim.Native.Nat.{ℕ}
@@ -11,6 +11,7 @@ use Rattle.register.specs.Register.{dot, step, window, bit, wave, period}
 use Rattle.register.specs.Calls.{tapsAnswer}
 use Rattle.response.specs.Response as formula
 use Rattle.rounding.specs.Rounding.{nearest}
+use Rattle.finding.specs.Finding.{finding}
 use Rattle.records.specs.Record.{together}
 use Rattle.campaign.specs.Calls.{startOutcome, enterOutcome, withdrawOutcome}
 use Rattle.trend.specs.Calls.{countsOutcome, responseOutcome}
@@ -19,12 +20,12 @@ use Rattle.report.specs.Lines.{digits}
 use Rattle.logbook.specs.Book.{beganOutcome, applied}
 use Rattle.logprogram.specs.Program.{rowsBytes, turn, output, logOutput}
 
--- order 3, taps 3, 2 slots; day 1 with -1,-3,-1,3,3,-3,1; day 2 with seven 5s; ask; withdraw 1; ask
+-- order 3, taps 3, 2 slots; day 1 with -4,-12,-4,12,12,-12,4; day 2 with seven 5s; ask; withdraw 1; ask
 abbrev pub example : List ℕ
 example =
     (1 ∷ 3 ∷ 3 ∷ 0 ∷ 2 ∷ [])
     ++ (2 ∷ 1 ∷ 0 ∷ [])
-    ++ (3 ∷ 255 ∷ 255 ∷ 255 ∷ 3 ∷ 253 ∷ 255 ∷ 255 ∷ 3 ∷ 255 ∷ 255 ∷ 255 ∷ 3 ∷ 3 ∷ 0 ∷ 0 ∷ 3 ∷ 3 ∷ 0 ∷ 0 ∷ 3 ∷ 253 ∷ 255 ∷ 255 ∷ 3 ∷ 1 ∷ 0 ∷ 0 ∷ [])
+    ++ (3 ∷ 252 ∷ 255 ∷ 255 ∷ 3 ∷ 244 ∷ 255 ∷ 255 ∷ 3 ∷ 252 ∷ 255 ∷ 255 ∷ 3 ∷ 12 ∷ 0 ∷ 0 ∷ 3 ∷ 12 ∷ 0 ∷ 0 ∷ 3 ∷ 244 ∷ 255 ∷ 255 ∷ 3 ∷ 4 ∷ 0 ∷ 0 ∷ [])
     ++ (4 ∷ [])
     ++ (2 ∷ 2 ∷ 0 ∷ [])
     ++ (3 ∷ 5 ∷ 0 ∷ 0 ∷ 3 ∷ 5 ∷ 0 ∷ 0 ∷ 3 ∷ 5 ∷ 0 ∷ 0 ∷ 3 ∷ 5 ∷ 0 ∷ 0 ∷ 3 ∷ 5 ∷ 0 ∷ 0 ∷ 3 ∷ 5 ∷ 0 ∷ 0 ∷ 3 ∷ 5 ∷ 0 ∷ 0 ∷ [])
@@ -39,12 +40,12 @@ exampleLines =
     ++ ascii "enter 1 0 kept\n"
     ++ ascii "enter 2 0 dead\n"
     ++ ascii "response 0 1 0 1 0\n"
-    ++ ascii "0 16 2\n1 0 0\n2 -8 -1\n3 0 0\n4 0 0\n5 0 0\n6 0 0\n"
+    ++ ascii "0 64 8\n1 0 0\n2 -32 -4\n3 0 0\n4 0 0\n5 0 0\n6 0 0\n"
     ++ ascii "withdraw 1 0\n"
     ++ ascii "response 14 0 0 1 1\n"
 
 pub example-prints : logOutput example ≡ exampleLines
-unfolding logOutput output turn decoded applied beganOutcome startOutcome enterOutcome withdrawOutcome countsOutcome responseOutcome rowsBytes digits together tapsAnswer period seek some every many total sum sign table put putAt nearest formula.response formula.correlation wave bit window step dot ones
+unfolding logOutput output turn decoded applied beganOutcome startOutcome enterOutcome finding withdrawOutcome countsOutcome responseOutcome rowsBytes digits together tapsAnswer period seek some every many total sum sign table put putAt nearest formula.response formula.correlation wave bit window step dot ones
 example-prints = refl
 
 -- order 4, the taps, 1 slot; ask, which is not reached

@@ -1,32 +1,30 @@
 -- What every log is promised: no line of it says 15 or 6, a start prints its answer and after 4 how short the period is, and what a response prints is
 -- what the history of its calls says, the third demand. For every input, and after any number of turns. Assumes nothing.
 use mathlib.Core.Path.{_≡_, refl, sym, ap, subst, _∙_}
-use mathlib.Core.Bool.{Bool, true, false, cond}
-use mathlib.Core.List.{List, [], _∷_, _++_, append-nil}
+use mathlib.Core.Bool.{true, cond}
+use mathlib.Core.List.{List, _++_, append-nil}
 use Prim.Native.Nat.{ℕ, suc, _≤_, _<_}
 use native.Mathlib.Omega.{arith}
 use borrow.Author.Tests.{le-leb}
-use lib.Dec.{eqb, ltb}
 use lib.IntN.{ℤ, pos, _*ℤ_}
 use lib.ListN.{length, take, length-replicate}
 use lib.Pow.{pow-mono}
 use Rattle.sums.proofs.First.{not-first, outcome-cases}
 use Rattle.sums.specs.Lists.{at}
 use Rattle.sums.specs.Text.{ascii}
-use Rattle.sums.specs.Refusals.{first, answered, outcome}
+use Rattle.sums.specs.Refusals.{first, answered}
 use Rattle.register.specs.Register.{P, wave, period}
 use Rattle.register.specs.Calls.{told, answerOf}
 use Rattle.register.proofs.HowShort.{how-short}
 use Rattle.register.proofs.Judged.{FirstReturn}
 use Rattle.response.specs.Response.{prediction}
-use Rattle.records.specs.Record.{unseen, standing, overloaded, dead, withdrawn, daysIn, together, marked}
+use Rattle.records.specs.Record.{unseen, standing, overloaded, dead, withdrawn, together}
 use Rattle.records.specs.declared.Campaign.{Campaign}
 use Rattle.records.proofs.Refiling.{Day}
-use Rattle.campaign.specs.Calls.{enterChecks, withdrawChecks, railPlace, still, entered, keptOutcome, judgedOutcome, withdrawnOutcome}
-use Rattle.campaign.specs.Calls.{enterOutcome, withdrawOutcome, verdictNumber}
-use Rattle.campaign.specs.declared.Entered.{Entered}
+use Rattle.campaign.specs.Calls.{enterAll, withdrawChecks, withdrawnOutcome}
+use Rattle.campaign.proofs.EntryCases.{entry-first}
+use Rattle.campaign.specs.Calls.{withdrawOutcome}
 use Rattle.campaign.specs.declared.Withdrawn.{Withdrawn}
-use Rattle.campaign.specs.declared.Verdict.the-variants as verdict
 use Rattle.trend.specs.Calls.{countsOutcome, responseOutcome}
 use Rattle.trend.proofs.Enough.{response-enough}
 use Rattle.trend.specs.declared.Tally.{Tally}
@@ -34,7 +32,6 @@ use Rattle.history.specs.Run.{World, Call, enter, withdraw, response, answer, b
 use Rattle.history.proofs.Answers.{RoomFor}
 use Rattle.history.proofs.EveryRun as every
 use Rattle.log.specs.declared.Phase.{Phase}
-use Rattle.log.specs.declared.Phase.the-variants as phase
 use Rattle.log.specs.declared.Item.{Item}
 use Rattle.log.specs.declared.Item.the-variants as item
 use Rattle.log.specs.declared.Found.the-variants as found
@@ -75,23 +72,7 @@ module _ {calls : List Call} {c : Campaign} {m : Memory} (r : Running calls c m)
   -- ---- 6 is no answer of an entry or of a withdrawal, and a response has room
 
   entry-no-six : (d : ℕ) (y : List ℤ) → answer now (enter d y) ≡ 6 → ⊥
-  unfolding enterOutcome
-  entry-no-six d y =
-      outcome-cases {A = Entered × List ℤ × List ℤ} (enterChecks c (m .store) (m .sums) d y) tt
-      (λ n. (entered c d (verdict.Refused n), m .store, m .sums)) (judgedOutcome c (m .store) (m .sums) d y)
-      (λ o. verdictNumber (o .0 .entry .verdict) ≡ 6 → ⊥)
-      (λ n _ h g. not-first 6 (enterChecks c (m .store) (m .sums) d y) tt (h ∙ g))
-      (λ _. by-rail (ltb (railPlace y) (length y)) (still y) (eqb (daysIn c standing) (c .capacity)))
-    where
-      by-rail : (a b e : Bool)
-          → verdictNumber (cond a (entered (marked c d overloaded) d (verdict.Overloaded (railPlace y)), m .store, m .sums)
-          (cond b (entered (marked c d dead) d verdict.Dead, m .store, m .sums)
-          (outcome ((12, e) ∷ []) (λ n. (entered c d (verdict.Refused n), m .store, m .sums)) (keptOutcome c (m .store) (m .sums) d y)))
-          .0 .entry .verdict) ≡ 6 → ⊥
-      by-rail true b e h = omega arith
-      by-rail false true e h = omega arith
-      by-rail false false true h = omega arith
-      by-rail false false false h = omega arith
+  entry-no-six d y h = not-first 6 (enterAll c (m .store) (m .sums) d y) tt (sym (entry-first c (m .store) (m .sums) d y) ∙ h)
 
   withdrawal-no-six : (d : ℕ) → answer now (withdraw d) ≡ 6 → ⊥
   unfolding withdrawOutcome

@@ -1,5 +1,6 @@
 -- The rails: what lies between them, and how large it is. Assumes nothing.
 use mathlib.Core.Path.{_≡_, refl, sym, ap, subst, _∙_}
+use mathlib.Core.Logic.{_↔_, _⊎_}
 use mathlib.Core.Bool.{true, false}
 use Prim.Native.Nat.{_≤_}
 use native.Mathlib.Omega.{arith}
@@ -8,9 +9,9 @@ use lib.Dec.{T, ltb}
 use lib.IntN.{ℤ, pos, negsuc, natAbs}
 use lib.Signed.{ltZ}
 use Rattle.sums.specs.Equal.{eqZ}
-use Rattle.sums.proofs.Equal.{eqZ-same}
+use Rattle.sums.proofs.Equal.{eqZ-same, eqZ-is}
 use Rattle.sums.proofs.Everywhere.{and-true, both-true}
-use Rattle.sums.proofs.First.{or-false}
+use Rattle.sums.proofs.First.{or-false, or-exactly}
 use Rattle.samples.specs.Samples.{lowest, highest, sampleOut, rail, inside}
 
 -- the rails are not inside them, their neighbours are
@@ -26,6 +27,10 @@ inside-size z h =
     go : (z : ℤ) → ltZ (negsuc 8388607) z ≡ true → ltZ z (pos 8388607) ≡ true → natAbs z ≤ 8388607
     go (pos n) a b = omega (arith, ltb-true n 8388607 b)
     go (negsuc n) a b = omega (arith, ltb-true n 8388607 a)
+
+-- a sample is at a rail where it is one of the two
+pub rail-exactly : (z : ℤ) → (rail z ≡ true) ↔ ((z ≡ lowest) ⊎ (z ≡ highest))
+rail-exactly z = or-exactly (eqZ z lowest) (eqZ z highest) (eqZ-is z lowest, eqZ-same) (eqZ-is z highest, eqZ-same)
 
 -- a sample in the range that is at no rail lies between them
 pub between : (z : ℤ) → sampleOut z ≡ false → rail z ≡ false → inside z ≡ true

@@ -13,4 +13,6 @@ pub mod Seek
 pub mod Somewhere
 pub mod Everywhere
 pub mod Equal
+pub mod Largest
+pub mod Scanning
 pub mod Parts

@@ -1,82 +1,30 @@
--- The place of a level is the first at which the response is largest, and a level is exact where the days standing are a power of two in
--- number. Assumes nothing.
-use mathlib.Core.Path.{_≡_, refl, sym, ap, subst, _∙_}
+-- No |r| is larger than at the peak, and a level is exact where the days standing are a power of two in number. Assumes nothing.
+use mathlib.Core.Path.{_≡_, refl, sym, ap, _∙_}
 use mathlib.Core.Bool.{Bool, true, false, cond}
 use mathlib.Core.List.{List}
 use Prim.Native.Nat.{ℕ, zero, suc, _+_, _-_, _*_, _^_, _≤_, _<_}
 use native.Mathlib.Nat.{le-of-lt, lt-irrefl, lt-of-lt-of-le, mul-assoc, mul-comm, mul-left-comm, mul-one, one-mul, mul-pos, zero-mul, zero-lt-suc}
-use native.Mathlib.Decide.{ℕ-discrete, decLt}
+use native.Mathlib.Decide.{decLt}
 use native.Mathlib.Omega.{arith}
 use borrow.Author.Tests.{ne-eqb, leb-true}
 use lib.Dec.{T, eqb, le→leb, lt→ltb}
-use lib.IntN.{ℤ, pos, negsuc, natAbs, _-ℤ_}
+use lib.IntN.{ℤ, pos, negsuc, natAbs}
 use lib.Pow.{pow-pos, pow-add, pow-mono, shl-lt}
-use lib.Signed.{leZ}
 use lib.Ieee.{Float, nan, inf, fin, Format, binary64, up, down, unlike, round, ofInt, inFloat, div}
 use lib.Ieee.Fits.{up-pos, down-pos}
 use lib.Ieee.Exact.{HasValue, round-exact}
 use lib.Ieee.Scale.{round-same}
 use lib.Ieee.Back.{round-whole}
-use Rattle.sums.specs.Lists.{every}
-use Rattle.sums.proofs.Diff.{parts, diffs}
-use Rattle.sums.proofs.Everywhere.{every-at, every-all}
-use Rattle.sums.proofs.Seek.{First, seek-first}
+use Rattle.sums.specs.Largest.{largestAt}
+use Rattle.sums.proofs.Largest.{largest-is}
 use Rattle.register.specs.Register.{P}
 use Rattle.records.specs.Record.{standing, daysIn}
 use Rattle.records.specs.declared.Campaign.{Campaign}
-use Rattle.sums.proofs.Equal.{le-is, leZ-refl, leZ-trans, leZ-turn}
 use Rattle.records.proofs.Holding.{Together}
-use Rattle.trend.specs.Calls.{worked, divisor, largestAt, level}
+use Rattle.trend.specs.Calls.{worked, divisor, level}
 use Rattle.trend.proofs.Bounds.{divisor-small, worked-small}
 
--- ---- the first place of the largest
-
-module _ (f : ℕ → ℤ) where
-  -- a place of the n at which f is at least as large as at every other
-  data Largest (n : ℕ) : Type 0 where
-    place : (k : ℕ) → k < n → ((i : ℕ) → i < n → leZ (f i) (f k) ≡ true) → Largest n
-
-  -- there is one: with one place more it is that place or the one before
-  longer : (n : ℕ) → Largest n → Largest (suc n)
-  longer n (place k l m) = go (leZ (f n) (f k)) refl
-    where
-      go : (b : Bool) → leZ (f n) (f k) ≡ b → Largest (suc n)
-      go true e = place k (omega arith) (λ i j. elim (ℕ-discrete i n) [ yes q ↦ ap (λ x. leZ (f x) (f k)) q ∙ e | no q ↦ m i (omega arith) ])
-      go false e = place n (omega arith) (λ i j. elim (ℕ-discrete i n) [
-        | yes q ↦ ap (λ x. leZ (f x) (f n)) q ∙ leZ-refl (f n)
-        | no q ↦ leZ-trans (f i) (f k) (f n) (m i (omega arith)) (leZ-turn (f n) (f k) e)
-      ])
-
-  largest : (n : ℕ) → Largest (suc n)
-  largest zero = place 0 (omega arith) (λ i l. let e : i ≡ 0 = omega arith in ap (λ x. leZ (f x) (f 0)) e ∙ leZ-refl (f 0))
-  largest (suc n) = longer (suc n) (largest n)
-
-  sought : (n : ℕ) → First (λ k. every n (λ i. leZ (f i) (f k))) n 0 (largestAt n f)
-  sought n = seek-first (λ k. every n (λ i. leZ (f i) (f k))) n 0
-
-  -- no place before the one sought is such
-  none-before : (n k : ℕ) → k < largestAt n f → ((i : ℕ) → i < n → leZ (f i) (f k) ≡ true) → ⊥
-  none-before n k l m = subst T (sym (every-all n (λ i. leZ (f i) (f k)) m) ∙ sought n .before k (omega arith) l) tt
-
-  found : (n : ℕ) → Largest n → largestAt n f < n
-  found n (place k l m) = elim (decLt (largestAt n f) n) [ yes h ↦ h | no h ↦ absurd (none-before n k (omega arith) m) ]
-
-  pub largest-within : (n : ℕ) → 0 < n → largestAt n f < n
-  largest-within zero p = absurd (omega arith)
-  largest-within (suc n) p = found (suc n) (largest n)
-
-  pub largest-is : (n : ℕ) → 0 < n → (i : ℕ) → i < n → leZ (f i) (f (largestAt n f)) ≡ true
-  largest-is n p = every-at n (λ i. leZ (f i) (f (largestAt n f))) (sought n .here (omega (arith, largest-within n p)))
-
-  pub largest-first : (n : ℕ) → 0 < n → (k : ℕ) → k < largestAt n f → leZ (f (largestAt n f)) (f k) ≡ true → ⊥
-  largest-first n p k l e = none-before n k l (λ i h. leZ-trans (f i) (f (largestAt n f)) (f k) (largest-is n p i h) e)
-
--- the lowest, and the largest in size
-pub lowest-is : (r : ℕ → ℤ) (n : ℕ) → 0 < n → (i : ℕ) → i < n → leZ (r (largestAt n (λ k. pos 0 -ℤ r k))) (r i) ≡ true
-lowest-is r n p i l = turned (r (largestAt n (λ k. pos 0 -ℤ r k))) (r i) (largest-is (λ k. pos 0 -ℤ r k) n p i l)
-  where
-    turned : (a b : ℤ) → leZ (pos 0 -ℤ b) (pos 0 -ℤ a) ≡ true → leZ a b ≡ true
-    turned a b h = le-is a b (omega (arith, leb-true, simp diffs at (rw (parts a, parts b) at h)))
+-- ---- the peak
 
 pub peak-is : (r : ℕ → ℤ) (n : ℕ) → 0 < n → (i : ℕ) → i < n → natAbs (r i) ≤ natAbs (r (largestAt n (λ k. pos (natAbs (r k)))))
 peak-is r n p i l = leb-true _ _ (largest-is (λ k. pos (natAbs (r k))) n p i l)

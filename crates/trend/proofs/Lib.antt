@@ -3,4 +3,3 @@ pub mod Bounds
 pub mod Leveling
 pub mod Enough
 pub mod Passing
-mod Scanning

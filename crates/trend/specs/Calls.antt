@@ -5,10 +5,10 @@ use mathlib.Core.Bool.{Bool, cond, _||_}
 use Prim.Native.Nat.{ℕ, _+_, _*_}
 use lib.Dec.{eqb, ltb}
 use lib.Ieee.{Float, binary64, ofInt, div}
-use lib.IntN.{ℤ, pos, natAbs, _-ℤ_}
+use lib.IntN.{ℤ, pos, natAbs}
 use lib.ListN.{length}
-use lib.Signed.{leZ}
-use Rattle.sums.specs.Lists.{at, table, put, seek, every}
+use Rattle.sums.specs.Lists.{at, table, put}
+use Rattle.sums.specs.Largest.{largestAt, largest, smallest}
 use Rattle.sums.specs.Refusals.{outcome, Meaning, accepts, refuses}
 use Rattle.register.specs.Register.{P, wave}
 use Rattle.response.specs.Response.{response}
@@ -74,16 +74,12 @@ responseOutcome c store sums r mean room tags =
 
 -- ---- summary: 15, 6, then nothing stands; the levels, the wide room and the tags
 
--- the first place of the n at which f is at least as large as at every other
-abbrev pub largestAt : ℕ → (ℕ → ℤ) → ℕ
-largestAt n f = seek (λ k. every n (λ i. leZ (f i) (f k))) n 0
-
 -- highest r, lowest r, and r at the peak, the first place of the largest |r|
 abbrev pub extremesOf : ℕ → (ℕ → ℤ) → Extremes
 extremesOf n r =
     record {
-      highest = r (largestAt n r);
-      lowest = r (largestAt n (λ k. pos 0 -ℤ r k));
+      highest = largest n r;
+      lowest = smallest n r;
       peak = r (largestAt n (λ k. pos (natAbs (r k))));
     }
 

@@ -3,7 +3,7 @@ use crate::HIGHEST;
 use crate::Held;
 use crate::LOWEST;
 use records::DAYS;
-ghost use Prim.Native.Nat.{_≤_, _<_};
+ghost use Prim.Native.Nat.{_^_, _≤_, _<_};
 ghost use lib.ListN.{length};
 ghost use Rattle.year.specs.Lent.{recording, visits};
 
@@ -13,24 +13,52 @@ pub fn day_of(i: usize) -> u32
     (149 * i % DAYS) as u32 + 1
 }
 
+// The sample that lies so far above the smallest one between the rails, -HIGHEST.
+fn up_by(n: usize) -> i32
+    requires { ⌜ n < 2 ^ 25 ⌝ }
+{
+    n as i32 - HIGHEST
+}
+
 // A sample strictly between the rails.
 fn sounding(i: usize, j: usize) -> i32
     requires { ⌜ (i < visits) × (j < recording) ⌝ }
 {
-    let n = (7919 * i + 104729 * j + 31 * i * j) % 16777213;
-    n as i32 - 8388606
+    up_by((7919 * i + 104729 * j + 31 * i * j) % 16777213 + 1)
 }
 
-fn level(i: usize) -> i32 {
-    (i % 200) as i32 - 100
+// How far the samples of a quiet visit lie apart.
+fn spread(i: usize) -> usize
+    ensures { λ s. ⌜ s < 10 ⌝ }
+{
+    i / 11 % 10
 }
 
-// Sample j of the recording of visit i, as a rule sounding, now and then the same at every place.
+// Its smallest sample, by how far up that is: next to the lower rail, so that the largest is next to the upper one, or near 0.
+fn smallest(i: usize) -> usize
+    ensures { λ n. ⌜ n < 2 ^ 24 ⌝ }
+{
+    if i % 3 == 0 {
+        return 0;
+    }
+    if i % 3 == 1 {
+        return 16777213 - spread(i);
+    }
+    8388507 + i % 200
+}
+
+fn quiet(i: usize, j: usize) -> i32
+    requires { ⌜ (i < visits) × (j < recording) ⌝ }
+{
+    up_by(smallest(i) + 31 * i * j % (spread(i) + 1))
+}
+
+// Sample j of the recording of visit i, as a rule sounding, now and then quiet.
 fn sample(i: usize, j: usize) -> i32
     requires { ⌜ (i < visits) × (j < recording) ⌝ }
 {
     if i % 11 == 7 {
-        return level(i);
+        return quiet(i, j);
     }
     sounding(i, j)
 }
@@ -73,12 +101,31 @@ fn overload_some(y: &mut [i32], i: usize)
     }
 }
 
-// The recording of visit i: as a rule kept, now and then overloaded or dead.
+// The smallest and the largest sample of a quiet visit, each at a place.
+fn widen(y: &mut [i32], i: usize)
+    requires { ⌜ (i < visits) × (0 < length (now y)) ⌝ }
+{
+    let low = place_of(i, y.len());
+    let high = place_of(i + 3, y.len());
+    y[low] = up_by(smallest(i));
+    y[high] = up_by(smallest(i) + spread(i));
+}
+
+fn widen_some(y: &mut [i32], i: usize)
+    requires { ⌜ (i < visits) × (0 < length (now y)) ⌝ }
+{
+    if i % 11 == 7 {
+        widen(y, i);
+    }
+}
+
+// The recording of visit i: as a rule kept, now and then overloaded, dead or nearly dead.
 fn record_night(y: &mut [i32], i: usize)
     requires { ⌜ (i < visits) × (0 < length (now y)) × (length (now y) ≤ recording) ⌝ }
 {
     write_samples(y, i);
     overload_some(y, i);
+    widen_some(y, i);
 }
 
 // With the recording of visit i at hand, a period long.

@@ -6,7 +6,9 @@ use borrow.Author.Needs.{needs}
 use lib.IntN.{ℤ}
 use Rattle.sums.specs.Refusals.{first}
 use Rattle.sums.proofs.First.{refused-with, accepted-with}
-use Rattle.campaign.specs.Calls.{entered, enterChecks, judgedOutcome, enterOutcome}
+use Rattle.finding.specs.Finding.{finding}
+use Rattle.finding.specs.declared.Finding.{Finding}
+use Rattle.campaign.specs.Calls.{entered, enterChecks, foundOutcome, enterOutcome}
 use Rattle.records.specs.declared.Campaign.{Campaign}
 use Rattle.campaign.specs.declared.Entered.{Entered}
 use Rattle.campaign.specs.declared.Verdict.the-variants as verdict
@@ -18,9 +20,9 @@ module _ (c : Campaign) (store sums : List ℤ) (d : ℕ) (y : List ℤ) (n : �
   unfolding enterOutcome
   refused h p = ap (λ r. (r, store, sums)) p ∙ sym (refused-with _ _ (enterChecks c store sums d y) n e h)
 
-  judged : n ≡ 0 → judgedOutcome c store sums d y ≡ enterOutcome c store sums d y
+  settled : n ≡ 0 → {f : Finding} → f ≡ finding y → foundOutcome f c store sums d y ≡ enterOutcome c store sums d y
   unfolding enterOutcome
-  judged z = sym (accepted-with _ _ (enterChecks c store sums d y) n e z)
+  settled z g = ap (λ f. foundOutcome f c store sums d y) g ∙ sym (accepted-with _ _ (enterChecks c store sums d y) n e z)
 
 enter-refusal-requires : tie.Need-enter-refusal-requires
 enter-refusal-requires c κs = search needs
@@ -37,8 +39,11 @@ same-length-2 c = search needs
 returns : tie.Need-returns
 returns c = let a = c .before .before .before .before .before .args in refused (a .c) (a .store .now) (a .sums .now) (a .d) (a .y .now) _ (c .before .before .enter-refusal .ensures) (c .before .if1 .taken) (c .entered .ensures)
 
-judge-requires : tie.Need-judge-requires
-judge-requires c κs = search needs
+look-requires : tie.Need-look-requires
+look-requires c κs = search needs
+
+settle-requires : tie.Need-settle-requires
+settle-requires c κs = search needs
 
 same-length-3 : tie.Need-same-length-3
 same-length-3 c = search needs
@@ -48,10 +53,11 @@ same-length-4 c = search needs
 
 returns-2 : tie.Need-returns-2
 returns-2 c =
-    let w = c .before .before .before .before .before in
+    let f = c .before .before .before in
+    let w = f .before .before .before in
     let a = w .before .before .before .before .args in
-    c .before .before .judge .ensures
-    ∙ judged (a .c) (a .store .now) (a .sums .now) (a .d) (a .y .now) _ (w .before .enter-refusal .ensures) (w .if1 .left)
+    c .before .before .settle .ensures
+    ∙ settled (a .c) (a .store .now) (a .sums .now) (a .d) (a .y .now) _ (w .before .enter-refusal .ensures) (w .if1 .left) (f .look .ensures)
 
 pub enter-spec : {M : Type 1} → statement M
 enter-spec =
@@ -62,7 +68,8 @@ enter-spec =
     same-length
     same-length-2
     returns
-    judge-requires
+    look-requires
+    settle-requires
     same-length-3
     same-length-4
     returns-2)

@@ -12,7 +12,8 @@ use Rattle.sums.specs.Lists.{at}
 use Rattle.sums.proofs.Bound.{read, natAbs-sub}
 use Rattle.register.specs.Register.{tag as tagOf}
 use Rattle.register.proofs.Windows.{tag-lt, tag-next}
-use Rattle.trend.proofs.Scanning.{Best, best-one, best-more, best-all, minus-le}
+use Rattle.sums.proofs.Equal.{minus-le}
+use Rattle.sums.proofs.Scanning.{Best, best-one, best-more, best-all}
 use Rattle.trend.proofs.measuring.read_extremes.Statement.{statement}
 use Rattle.trend.proofs.measuring.read_extremes.Tie as tie
 

@@ -1,8 +1,8 @@
-// What a recording is: at a rail, still, or neither.
+// The scan for a rail.
 use crate::Rail;
 use samples::range::at_rail;
 ghost use mathlib.Core.Path.{_≡_};
-ghost use Rattle.campaign.specs.Calls.{railOf, still};
+ghost use Rattle.finding.specs.Finding.{railOf};
 
 // The first place at a rail, or none.
 pub fn first_rail(y: &[i32]) -> Rail
@@ -20,18 +20,4 @@ pub fn first_rail(y: &[i32]) -> Rail
         j += 1;
     };
     found
-}
-
-// Whether all samples are equal.
-pub fn all_equal(y: &[i32]) -> bool
-    ensures { λ r. ⌜ r ≡ still (now (y .entry)) ⌝ }
-{
-    let mut j = 0;
-    while j < y.len() {
-        if y[j] != y[0] {
-            return false;
-        }
-        j += 1;
-    }
-    true
 }

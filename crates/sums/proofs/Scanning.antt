@@ -1,18 +1,17 @@
 -- A scan from the last place to the first: of those passed, the number at the first place where it counts the most. Assumes nothing.
-use mathlib.Core.Path.{_≡_, refl, sym, ap, ap₂, subst, _∙_}
+use mathlib.Core.Path.{_≡_, refl, sym, ap, subst, _∙_}
 use mathlib.Core.Bool.{Bool, true, false, cond}
-use Prim.Native.Nat.{ℕ, suc, _+_, _≤_, _<_}
+use Prim.Native.Nat.{ℕ, suc, _≤_, _<_}
 use native.Mathlib.Decide.{ℕ-discrete}
 use native.Mathlib.Omega.{arith}
-use lib.Dec.{T, leb}
-use lib.IntN.{ℤ, pos, _-ℤ_}
+use lib.Dec.{T}
+use lib.IntN.{ℤ}
 use lib.Signed.{leZ}
 use Rattle.sums.specs.Lists.{every}
-use Rattle.sums.proofs.Diff.{up, down, parts, diffs}
 use Rattle.sums.proofs.Everywhere.{every-at, every-all}
 use Rattle.sums.proofs.Seek.{First, seek-first, first-unique}
 use Rattle.sums.proofs.Equal.{leZ-refl, leZ-trans, leZ-turn}
-use Rattle.trend.specs.Calls.{largestAt}
+use Rattle.sums.specs.Largest.{largestAt}
 
 module _ (g : ℤ → ℤ) (r : ℕ → ℤ) (n : ℕ) where
   -- z is r at the first of the places from k on at which g of it is largest
@@ -95,13 +94,3 @@ module _ (g : ℤ → ℤ) (r : ℕ → ℤ) (n : ℕ) where
             before = λ i a l. fails i (b .before i a l) (test i) refl;
             here = λ _. every-all n (λ i. leZ (g (r i)) (g (r (b .place)))) (λ i l. ap (λ v. leZ (g (r i)) (g v)) (sym (b .is)) ∙ b .most i (omega arith) l);
           }
-
--- the order turned by taking from 0
-pub minus-le : (a b : ℤ) → leZ (pos 0 -ℤ a) (pos 0 -ℤ b) ≡ leZ b a
-minus-le a b = rw (parts a, parts b) (simp diffs (same (down a) (up b) (down b) (up a)))
-  where
-    same : (x y z w : ℕ) → leb (0 + x + (0 + y)) (0 + z + (0 + w)) ≡ leb (y + x) (w + z)
-    same x y z w =
-        let e : 0 + x + (0 + y) ≡ y + x = omega arith in
-        let f : 0 + z + (0 + w) ≡ w + z = omega arith in
-        ap₂ leb e f

@@ -1,4 +1,4 @@
--- `campaign::judging::first_rail` meets its contract: the first place at a rail lies ahead. Assumes nothing.
+-- `finding::rails::first_rail` meets its contract: the first place at a rail lies ahead. Assumes nothing.
 use mathlib.Core.Path.{_≡_, refl, sym, ap, _∙_}
 use mathlib.Core.Bool.{Bool, cond}
 use mathlib.Core.List.{List}
@@ -11,11 +11,11 @@ use mir.Syntax.{w32}
 use Rattle.sums.specs.Lists.{at}
 use Rattle.sums.proofs.Bound.{read}
 use Rattle.samples.specs.Samples.{rail}
-use Rattle.campaign.specs.Calls.{railPlace, railOf}
-use Rattle.campaign.specs.declared.Rail.the-variants as scan
+use Rattle.finding.specs.Finding.{railPlace, railOf}
+use Rattle.finding.specs.declared.Rail.the-variants as scan
 use Rattle.sums.proofs.Seek.{Ahead, ahead-none, ahead-more, ahead-here, ahead-end}
-use Rattle.campaign.proofs.judging.first_rail.Statement.{statement}
-use Rattle.campaign.proofs.judging.first_rail.Tie as tie
+use Rattle.finding.proofs.rails.first_rail.Statement.{statement}
+use Rattle.finding.proofs.rails.first_rail.Tie as tie
 
 abbrev test : List ℤ → ℕ → Bool
 test y j = rail (at y j)

@@ -1,0 +1,3 @@
+-- The laws of what a recording is found to be.
+pub mod Exactly
+pub mod Numbers
