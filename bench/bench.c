@@ -1,6 +1,6 @@
 /* Times the proved meter beside plain C, in one process: for each order and each piece of work the best and the median of the rounds, in
  * microseconds, one line each: order, name, best, median. Each round runs every piece of its group once, so that all see the same machine: first
- * what turns one recording, then what goes over the store. */
+ * what turns one recording, then what goes over a store of 64 slots, then what goes over one of a single slot. */
 #include "meter.h"
 #include "plain.h"
 #include <math.h>
@@ -12,7 +12,7 @@
 #include <fftw3.h>
 #endif
 
-enum { ROUNDS = 41, SLOT_COUNT = 64, MOST_P = 65535 };
+enum { ROUNDS = 41, SLOT_COUNT = 64, MOST_P = 65535, PERIODS = 16 };
 
 /* The orders that are measured, and for each taps that are not maximal, though their register takes nearly P steps to return. */
 static const struct { uint32_t order, short_taps, steps; } registers[] = {{9, 5, 465}, {12, 39, 3937}, {16, 99, 64897}};
@@ -20,10 +20,17 @@ enum { REGISTERS = sizeof registers / sizeof *registers };
 
 static uint32_t order, taps, short_taps, steps, period;
 static size_t p;
-static uint8_t days[METER_DAYS];
+static uint8_t days[METER_DAYS], periods[METER_SLOTS];
 static uint16_t slots[METER_SLOTS];
 static int32_t *store, *y, *quiet, *h, *mean, *predicted;
 static int64_t *sums, *r, *room, *other;
+/* A night of several periods behind a run-in. */
+static int32_t *heard;
+/* A campaign of one slot. */
+static uint8_t one_days[METER_DAYS], one_periods[METER_SLOTS];
+static uint16_t one_slots[METER_SLOTS];
+static int32_t *one_store;
+static int64_t *one_sums;
 /* Two lists, of which the meter is lent the first and the plain C has both. */
 static uint16_t *tags;
 static double *doubles, *paper_room, *paper_out;
@@ -36,7 +43,8 @@ static void must(int held, const char *what) {
     }
 }
 
-#define RECORD order, taps, SLOT_COUNT, days, METER_DAYS, slots, METER_SLOTS, store, SLOT_COUNT *p, sums, p
+#define RECORD order, taps, SLOT_COUNT, days, METER_DAYS, slots, METER_SLOTS, periods, METER_SLOTS, store, SLOT_COUNT *p, sums, p
+#define ONE order, taps, 1, one_days, METER_DAYS, one_slots, METER_SLOTS, one_periods, METER_SLOTS, one_store, p, one_sums, p
 #define ROOM room, p + 1, tags, p
 
 static void recording(void) { must(meter_recording(order, taps, y, p, r, p, ROOM, &period) == 0, "recording"); }
@@ -53,10 +61,37 @@ static void dead(void) {
     must(meter_enter(RECORD, 65, quiet, p, &state, &value) == 0 && state == METER_DEAD, "dead");
 }
 static void withdraw(void) { must(meter_withdraw(RECORD, 64) == 0, "withdraw"); }
+static void capture(void) {
+    uint32_t state;
+    size_t value;
+    must(meter_capture(RECORD, 64, PERIODS, heard, (PERIODS + 1) * p, &state, &value) == 0 && value == 63, "capture");
+}
+static void enter_one(void) {
+    uint32_t state;
+    size_t value;
+    must(meter_enter(ONE, 1, y, p, &state, &value) == 0 && state == METER_STANDING, "enter, one slot");
+}
+static void capture_one(void) {
+    uint32_t state;
+    size_t value;
+    must(meter_capture(ONE, 1, PERIODS, heard, (PERIODS + 1) * p, &state, &value) == 0 && state == METER_STANDING, "capture, one slot");
+}
+static void pass_heard(void) { sink += plain_pass(heard, (PERIODS + 1) * p) + plain_pass(store, SLOT_COUNT * p); }
+static void pass_heard_one(void) { sink += plain_pass(heard, (PERIODS + 1) * p) + plain_pass(one_store, p); }
+/* What a piece before it has entered goes out again, unmeasured. */
+static void make_room(void) {
+    if (days[63] == METER_STANDING)
+        withdraw();
+}
+static void make_one_room(void) {
+    if (one_days[0] == METER_STANDING)
+        must(meter_withdraw(ONE, 1) == 0, "withdraw, one slot");
+}
 static void response(void) { must(meter_response(RECORD, r, p, mean, p, ROOM) == 0, "response"); }
 static void paper(void) { paper_recording(order, doubles, tags, tags + p, paper_room, paper_out); }
 static void plain(void) { plain_recording(order, taps, y, other, room, tags, tags + p); }
 static void ready(void) { plain_turn(order, y, other, room, tags, tags + p); }
+static void make_tags(void) { plain_tags(order, taps, tags, tags + p); }
 static void prediction(void) { plain_predict(order, taps, h, predicted, room, tags, tags + p); }
 static void pass(void) { sink += plain_pass(store, SLOT_COUNT * p); }
 static void refused(void) { must(meter_taps(order, short_taps, &period) == METER_NOT_MAXIMAL && period == steps, "short taps"); }
@@ -96,16 +131,20 @@ static void plan_fftw(void) {
 static struct {
     const char *name;
     void (*work)(void);
+    /* What it wants done before, unmeasured, or NULL. */
+    void (*before)(void);
     double times[ROUNDS];
 } pieces[] = {
-    {"recording", recording, {0}}, {"paper", paper, {0}}, {"plain", plain, {0}}, {"ready", ready, {0}},
+    {"recording", recording, NULL, {0}}, {"paper", paper, make_tags, {0}}, {"plain", plain, NULL, {0}}, {"ready", ready, make_tags, {0}},
 #ifdef WITH_FFTW
-    {"fftw", fftw, {0}},
+    {"fftw", fftw, NULL, {0}},
 #endif
-    {"predict", predict, {0}}, {"plain_predict", prediction, {0}}, {"refused", refused, {0}}, {"walk", walk, {0}},
-    {"enter", enter, {0}}, {"dead", dead, {0}}, {"pass", pass, {0}}, {"response", response, {0}}, {"withdraw", withdraw, {0}},
+    {"predict", predict, NULL, {0}}, {"plain_predict", prediction, NULL, {0}}, {"refused", refused, NULL, {0}}, {"walk", walk, NULL, {0}},
+    {"enter", enter, make_room, {0}}, {"dead", dead, NULL, {0}}, {"pass", pass, NULL, {0}}, {"response", response, NULL, {0}},
+    {"withdraw", withdraw, NULL, {0}}, {"capture", capture, NULL, {0}}, {"heard", pass_heard, NULL, {0}},
+    {"enter_one", enter_one, make_one_room, {0}}, {"capture_one", capture_one, make_one_room, {0}}, {"heard_one", pass_heard_one, NULL, {0}},
 };
-enum { PIECES = sizeof pieces / sizeof *pieces, OVER_THE_STORE = PIECES - 5 };
+enum { PIECES = sizeof pieces / sizeof *pieces, ONE_SLOT = PIECES - 3, OVER_THE_STORE = ONE_SLOT - 7 };
 
 static double now(void) {
     struct timespec t;
@@ -130,7 +169,9 @@ static void begin(int n) {
     steps = registers[n].steps;
     p = ((size_t)1 << order) - 1;
     must(meter_default_taps(order, &taps) == 0, "taps");
-    must(meter_start(RECORD, &period) == 0, "start");
+    must(meter_start(RECORD, &period) == 0 && meter_start(ONE, &period) == 0, "start");
+    for (size_t j = 0; j < (PERIODS + 1) * p; j++)
+        heard[j] = drawn(8388606);
     for (uint32_t day = 1; day < SLOT_COUNT; day++) {
         uint32_t state;
         size_t value;
@@ -150,7 +191,7 @@ static void begin(int n) {
     memcpy(mean, predicted, p * sizeof *mean);
     prediction();
     must(memcmp(mean, predicted, p * sizeof *mean) == 0, "plain C's prediction differs");
-    plain_tags(order, taps, tags, tags + p);
+    make_tags();
     paper();
     for (size_t k = 0; k < p; k++)
         must(fabs(paper_out[k] - (double)r[k] / (double)(p + 1)) < 1e-3, "the paper's route differs");
@@ -162,8 +203,8 @@ static void begin(int n) {
 static void rounds(int first, int end) {
     for (int round = -2; round < ROUNDS; round++)
         for (int i = first; i < end; i++) {
-            if (pieces[i].work == paper || pieces[i].work == ready)
-                plain_tags(order, taps, tags, tags + p);
+            if (pieces[i].before != NULL)
+                pieces[i].before();
             double from = now();
             pieces[i].work();
             double to = now();
@@ -174,6 +215,8 @@ static void rounds(int first, int end) {
 
 int main(void) {
     store = malloc(SLOT_COUNT * MOST_P * sizeof *store);
+    one_store = malloc(MOST_P * sizeof *one_store);
+    heard = malloc((PERIODS + 1) * MOST_P * sizeof *heard);
     y = malloc(MOST_P * sizeof *y);
     quiet = malloc(MOST_P * sizeof *quiet);
     for (size_t j = 0; j < MOST_P; j++)
@@ -182,6 +225,7 @@ int main(void) {
     mean = malloc(MOST_P * sizeof *mean);
     predicted = malloc(MOST_P * sizeof *predicted);
     sums = malloc(MOST_P * sizeof *sums);
+    one_sums = malloc(MOST_P * sizeof *one_sums);
     r = malloc(MOST_P * sizeof *r);
     other = malloc(MOST_P * sizeof *other);
     room = malloc((MOST_P + 1) * sizeof *room);
@@ -192,7 +236,8 @@ int main(void) {
     for (int n = 0; n < REGISTERS; n++) {
         begin(n);
         rounds(0, OVER_THE_STORE);
-        rounds(OVER_THE_STORE, PIECES);
+        rounds(OVER_THE_STORE, ONE_SLOT);
+        rounds(ONE_SLOT, PIECES);
         for (int i = 0; i < PIECES; i++) {
             qsort(pieces[i].times, ROUNDS, sizeof(double), smaller);
             printf("%u %s %.2f %.2f\n", order, pieces[i].name, pieces[i].times[0], pieces[i].times[ROUNDS / 2]);

@@ -27,6 +27,11 @@ PIECES = {
     "withdraw": "withdraw it",
     "response": "response of 64 nights",
     "pass": "(d) one pass over the store",
+    "capture": "enter a capture of 16 periods into the 64th slot",
+    "heard": "(f) one pass over its samples and the store",
+    "enter_one": "enter into the only slot",
+    "capture_one": "enter a capture of 16 periods into the only slot",
+    "heard_one": "(g) one pass over its samples and the only slot",
 }
 RATIOS = [
     ("one recording to (a)", ["recording"], ["paper"]),
@@ -39,6 +44,8 @@ RATIOS = [
     ("a dead night to (d)", ["dead"], ["pass"]),
     ("withdraw to (d)", ["withdraw"], ["pass"]),
     ("response to one recording and (d)", ["response"], ["recording", "pass"]),
+    ("a capture to (f)", ["capture"], ["heard"]),
+    ("a capture into the only slot to (g)", ["capture_one"], ["heard_one"]),
 ]
 # What was asked at the largest order: a bound on a ratio of bests.
 ASKED = [
@@ -47,6 +54,8 @@ ASKED = [
     ("one recording: at most 0.9 of plain int64 C, which makes its tags in the call, as ours does", ["recording"], ["plain"], "most", 0.9),
     ("one recording: at most 0.9 of plain int64 C that is handed its tags", ["recording"], ["ready"], "most", 0.9),
     ("one recording: at least 3 times faster than FFTW", ["fftw"], ["recording"], "least", 3),
+    ("a capture of 16 periods with 64 slots: at most 1.5 times (f)", ["capture"], ["heard"], "most", 1.5),
+    ("a capture of 16 periods with one slot: at most 1.5 times (g)", ["capture_one"], ["heard_one"], "most", 1.5),
 ]
 
 

@@ -20,6 +20,7 @@ enum { ORDER = 3, TAPS = 3, P = 7, SLOT_COUNT = 2 };
 
 static uint8_t days[METER_DAYS + 1];
 static uint16_t slots[METER_SLOTS + 1];
+static uint8_t periods[METER_SLOTS + 1];
 static int32_t store[SLOT_COUNT * P + 1];
 static int64_t sums[P + 1];
 static int64_t r[P + 1];
@@ -28,7 +29,8 @@ static int64_t room[P + 2];
 static uint16_t tags[P + 1];
 static uint32_t period;
 
-#define RECORD ORDER, TAPS, SLOT_COUNT, days, METER_DAYS + 1, slots, METER_SLOTS + 1, store, SLOT_COUNT * P + 1, sums, P + 1
+#define LENT_OF(n_days, n_slots, n_periods) days, n_days, slots, n_slots, periods, n_periods, store, SLOT_COUNT * P + 1, sums, P + 1
+#define RECORD ORDER, TAPS, SLOT_COUNT, LENT_OF(METER_DAYS + 1, METER_SLOTS + 1, METER_SLOTS + 1)
 #define ROOM room, P + 2, tags, P + 1
 
 static int says(uint32_t answer, const char *words) {
@@ -38,11 +40,13 @@ static int says(uint32_t answer, const char *words) {
 static uint32_t judged(uint32_t order, uint32_t taps) { return meter_taps(order, taps, &period); }
 
 static void words(void) {
-    EXPECT(says(METER_ACCEPTED, "accepted") && says(18, "unknown") && says(4294967295u, "unknown"));
+    EXPECT(says(METER_ACCEPTED, "accepted") && says(19, "unknown") && says(4294967295u, "unknown"));
     EXPECT(says(judged(17, 3), "order below 2 or above 16") && says(judged(2, 4), "taps not below 2^N"));
     EXPECT(says(judged(2, 2), "tap 0 clear") && says(judged(2, 1), "register not maximal"));
-    EXPECT(says(METER_BEYOND_THE_PROGRAM, "the program only: order above 9 or slots above 8") && METER_BEYOND_THE_PROGRAM == 17);
-    for (uint32_t n = 0; n < 17; n++)
+    EXPECT(says(METER_WRONG_LENGTH, "recording or response not exactly P long, capture not exactly (m+1)*P") && METER_WRONG_LENGTH == 5);
+    EXPECT(says(METER_BEYOND_THE_PROGRAM, "the program only: order above 9, slots above 8, or 5 to 16 periods") && METER_BEYOND_THE_PROGRAM == 17);
+    EXPECT(says(METER_PERIODS_OUT_OF_RANGE, "periods not 1 to 16") && METER_PERIODS_OUT_OF_RANGE == 18);
+    for (uint32_t n = 0; n < 18; n++)
         EXPECT(!says(n, "unknown") && !says(n, meter_explain(n + 1)));
 }
 
@@ -101,17 +105,19 @@ static void campaigns(void) {
     double highest = 9, lowest = 9, peak = 9;
     days[METER_DAYS] = 9;
     slots[METER_SLOTS] = 9;
+    periods[METER_SLOTS] = 9;
     store[0] = 9;
-    EXPECT(meter_start(ORDER, TAPS, SLOT_COUNT, days, METER_DAYS - 1, slots, METER_SLOTS, store, SLOT_COUNT * P, sums, P, &period) == 6 && store[0] == 9);
-    EXPECT(meter_start(ORDER, TAPS, SLOT_COUNT, days, METER_DAYS, slots, METER_SLOTS - 1, store, SLOT_COUNT * P, sums, P, &period) == 6 && store[0] == 9);
-    EXPECT(meter_start(ORDER, TAPS, 65, days, METER_DAYS - 1, slots, METER_SLOTS, store, SLOT_COUNT * P, sums, P, &period) == 9 && store[0] == 9);
-    EXPECT(meter_start(ORDER, TAPS, 65, days, METER_DAYS, slots, METER_SLOTS, store, SLOT_COUNT * P, sums, P, &period) == 9);
+    EXPECT(meter_start(ORDER, TAPS, SLOT_COUNT, LENT_OF(METER_DAYS - 1, METER_SLOTS, METER_SLOTS), &period) == 6 && store[0] == 9);
+    EXPECT(meter_start(ORDER, TAPS, SLOT_COUNT, LENT_OF(METER_DAYS, METER_SLOTS - 1, METER_SLOTS), &period) == 6 && store[0] == 9);
+    EXPECT(meter_start(ORDER, TAPS, SLOT_COUNT, LENT_OF(METER_DAYS, METER_SLOTS, METER_SLOTS - 1), &period) == 6 && store[0] == 9);
+    EXPECT(meter_start(ORDER, TAPS, 65, LENT_OF(METER_DAYS - 1, METER_SLOTS, METER_SLOTS), &period) == 9 && store[0] == 9);
+    EXPECT(meter_start(ORDER, TAPS, 65, LENT_OF(METER_DAYS, METER_SLOTS, METER_SLOTS), &period) == 9 && store[0] == 9);
     EXPECT(meter_start(RECORD, &period) == 0 && store[0] == 0);
     EXPECT(meter_response(RECORD, r, P + 1, mean, P + 1, ROOM) == 14);
     EXPECT(meter_summary(RECORD, ROOM, &stands, &highest, &lowest, &peak) == 0 && stands == 0 && highest == 9);
     EXPECT(meter_enter(RECORD, 367, y, P, &state, &value) == 10 && state == 9 && value == 9);
     EXPECT(meter_enter(RECORD, 1, y, P, &state, &value) == 0 && state == METER_STANDING && value == 0);
-    EXPECT(days[0] == METER_STANDING && slots[0] == 1 && store[1] == -12 && sums[1] == -12);
+    EXPECT(days[0] == METER_STANDING && slots[0] == 1 && periods[0] == 1 && store[1] == -12 && sums[1] == -12);
     EXPECT(meter_enter(RECORD, 1, y, P, &state, &value) == 11);
     EXPECT(meter_enter(RECORD, 2, still, P, &state, &value) == 0 && state == METER_DEAD && value == 0);
     EXPECT(meter_enter(RECORD, 3, loud, P, &state, &value) == 0 && state == METER_OVERLOADED && value == 2);
@@ -126,8 +132,27 @@ static void campaigns(void) {
     EXPECT(meter_withdraw(RECORD, 1) == 15);
     sums[0]--;
     EXPECT(meter_withdraw(RECORD, 2) == 13);
-    EXPECT(meter_withdraw(RECORD, 1) == 0 && days[0] == METER_WITHDRAWN && slots[0] == 0 && store[1] == 0 && sums[1] == 0);
-    EXPECT(days[METER_DAYS] == 9 && slots[METER_SLOTS] == 9);
+    EXPECT(meter_withdraw(RECORD, 1) == 0 && days[0] == METER_WITHDRAWN && slots[0] == 0 && periods[0] == 0);
+    EXPECT(store[1] == 0 && sums[1] == 0 && days[METER_DAYS] == 9 && slots[METER_SLOTS] == 9 && periods[METER_SLOTS] == 9);
+}
+
+/* Two periods behind a run-in at the rails, worked by hand: the slot has their sum, r is that sum's, and 8 times 2 periods divides it. */
+static void captures(void) {
+    const int32_t y[3 * P] = {8388607, 8388607, 8388607, 8388607, 8388607, 8388607, 8388607,
+                              -4, -12, -4, 12, 12, -12, 4, -3, -13, -2, 12, 10, -11, 3};
+    uint32_t state = 9, stands = 9;
+    size_t value = 9;
+    double highest = 9, lowest = 9, peak = 9;
+    EXPECT(meter_start(RECORD, &period) == 0);
+    EXPECT(meter_capture(RECORD, 1, 17, y, 3 * P, &state, &value) == 18 && meter_capture(RECORD, 1, 3, y, 3 * P, &state, &value) == 5);
+    EXPECT(state == 9 && value == 9);
+    EXPECT(meter_capture(RECORD, 1, 2, y, 3 * P, &state, &value) == 0 && state == METER_STANDING && value == 0);
+    EXPECT(slots[0] == 1 && periods[0] == 2 && memcmp(store, (int32_t[]){-7, -25, -6, 24, 22, -23, 7}, P * sizeof *store) == 0);
+    EXPECT(meter_response(RECORD, r, P + 1, mean, P + 1, ROOM) == 0);
+    EXPECT(memcmp(r, (int64_t[]){122, 0, -66, 4, 0, -2, 6}, P * sizeof *r) == 0);
+    EXPECT(memcmp(mean, (int32_t[]){8, 0, -4, 0, 0, 0, 0}, P * sizeof *mean) == 0);
+    EXPECT(meter_summary(RECORD, ROOM, &stands, &highest, &lowest, &peak) == 0 && highest == 7.625 && lowest == -4.125 && peak == 7.625);
+    EXPECT(meter_withdraw(RECORD, 1) == 0 && periods[0] == 0);
 }
 
 /* ---- the period ---- */
@@ -138,7 +163,7 @@ static const char *const named[] = {"taps", "sequence", "recording", "predict", 
 
 /* All that is lent, for the largest order, each byte LEFT before a call. */
 static struct lent {
-    uint8_t bits[MOST_P], days[METER_DAYS];
+    uint8_t bits[MOST_P], days[METER_DAYS], periods[METER_SLOTS];
     uint16_t tags[MOST_P], slots[METER_SLOTS];
     int32_t samples[MOST_P], store[MOST_P];
     int64_t wide[MOST_P], room[MOST_P + 1], sums[MOST_P];
@@ -147,7 +172,7 @@ static struct lent {
 /* A register, the slots beyond the first, by how much each length is short, and the first two values of a recording or a response of zeros. */
 struct given {
     uint32_t order, taps, more_slots;
-    size_t in, out, room, tags, days, slots, store, sums;
+    size_t in, out, room, tags, days, slots, periods, store, sums;
     int32_t values[2];
 };
 
@@ -165,7 +190,7 @@ static uint32_t answer_of(unsigned function, const struct given *g, uint32_t *to
         return meter_predict_in_room(g->order, g->taps, in, p - g->in, lent.samples, p - g->out, lent.room, p + 1 - g->room, told);
     default:
         return meter_start(g->order, g->taps, 1 + g->more_slots, lent.days, METER_DAYS - g->days, lent.slots, METER_SLOTS - g->slots,
-                           lent.store, p - g->store, lent.sums, p - g->sums, told);
+                           lent.periods, METER_SLOTS - g->periods, lent.store, p - g->store, lent.sums, p - g->sums, told);
     }
 }
 
@@ -182,7 +207,7 @@ static const struct { unsigned functions; struct given given; uint32_t answer, p
     {ALL, {.order = 16, .taps = 65535}, 4, 17},
     {ALL, {.order = 16, .taps = 99}, 4, 64897},
     /* Whatever else is wrong, 4 comes first and has its period. */
-    {ALL, {4, 15, 64, .in = 1, .out = 1, .room = 1, .tags = 1, .days = 1, .slots = 1, .store = 1, .sums = 1, .values = {8388608, 0}}, 4, 5},
+    {ALL, {4, 15, 64, .in = 1, .out = 1, .room = 1, .tags = 1, .days = 1, .slots = 1, .periods = 1, .store = 1, .sums = 1, .values = {8388608, 0}}, 4, 5},
     {ALL, {.order = 1, .taps = 3}, 1, UNTOLD},
     {ALL, {.order = 17, .taps = 3}, 1, UNTOLD},
     {ALL, {.order = 4, .taps = 16}, 2, UNTOLD},
@@ -196,6 +221,8 @@ static const struct { unsigned functions; struct given given; uint32_t answer, p
     {OF_START, {3, 3, .more_slots = 64}, 9, UNTOLD},
     {OF_START, {3, 3, .days = 1}, 6, UNTOLD},
     {OF_START, {3, 3, .slots = 1}, 6, UNTOLD},
+    {OF_START, {3, 3, .periods = 1}, 6, UNTOLD},
+    {OF_START, {3, 3, .more_slots = 64, .periods = 1}, 9, UNTOLD},
     {OF_START, {3, 3, .store = 1}, 6, UNTOLD},
     {OF_START, {3, 3, .sums = 1}, 6, UNTOLD},
 };
@@ -213,7 +240,7 @@ static void expect_told(unsigned f, size_t i) {
     expect(answer == 0 || memcmp(&lent, &before, sizeof lent) == 0, what);
 }
 
-static void periods(void) {
+static void periods_told(void) {
     for (size_t i = 0; i < TOLD; i++)
         for (unsigned f = 0; f < sizeof named / sizeof *named; f++)
             if (told_by[i].functions >> f & 1)
@@ -225,7 +252,8 @@ int main(void) {
     registers();
     recordings();
     campaigns();
-    periods();
+    captures();
+    periods_told();
     printf("calls from C: %d expected, %d wrong\n", made, wrong);
     return wrong != 0;
 }

@@ -17,21 +17,24 @@ mod declared {
         pub fn meter_predict_in_room(order: u32, taps: u32, h: *const i32, h_len: usize, out: *mut i32, out_len: usize,
             room: *mut i64, room_len: usize, period: &mut u32) -> u32;
         pub fn meter_start(order: u32, taps: u32, capacity: u32, days: *mut u8, days_len: usize, slots: *mut u16, slots_len: usize,
-            store: *mut i32, store_len: usize, sums: *mut i64, sums_len: usize, period: &mut u32) -> u32;
+            periods: *mut u8, periods_len: usize, store: *mut i32, store_len: usize, sums: *mut i64, sums_len: usize, period: &mut u32) -> u32;
         pub fn meter_enter(order: u32, taps: u32, capacity: u32, days: *mut u8, days_len: usize, slots: *mut u16, slots_len: usize,
-            store: *mut i32, store_len: usize, sums: *mut i64, sums_len: usize,
+            periods: *mut u8, periods_len: usize, store: *mut i32, store_len: usize, sums: *mut i64, sums_len: usize,
             day: u32, y: *const i32, y_len: usize, state: &mut u32, value: &mut usize) -> u32;
+        pub fn meter_capture(order: u32, taps: u32, capacity: u32, days: *mut u8, days_len: usize, slots: *mut u16, slots_len: usize,
+            periods: *mut u8, periods_len: usize, store: *mut i32, store_len: usize, sums: *mut i64, sums_len: usize,
+            day: u32, m: u32, y: *const i32, y_len: usize, state: &mut u32, value: &mut usize) -> u32;
         pub fn meter_withdraw(order: u32, taps: u32, capacity: u32, days: *mut u8, days_len: usize, slots: *mut u16, slots_len: usize,
-            store: *mut i32, store_len: usize, sums: *mut i64, sums_len: usize, day: u32) -> u32;
+            periods: *mut u8, periods_len: usize, store: *mut i32, store_len: usize, sums: *mut i64, sums_len: usize, day: u32) -> u32;
         pub fn meter_counts(order: u32, taps: u32, capacity: u32, days: *const u8, days_len: usize, slots: *const u16, slots_len: usize,
-            store: *const i32, store_len: usize, sums: *const i64, sums_len: usize,
+            periods: *const u8, periods_len: usize, store: *const i32, store_len: usize, sums: *const i64, sums_len: usize,
             unseen: &mut u32, standing: &mut u32, overloaded: &mut u32, dead: &mut u32, withdrawn: &mut u32) -> u32;
         pub fn meter_response(order: u32, taps: u32, capacity: u32, days: *const u8, days_len: usize, slots: *const u16, slots_len: usize,
-            store: *const i32, store_len: usize, sums: *const i64, sums_len: usize, r: *mut i64, r_len: usize, mean: *mut i32, mean_len: usize,
-            room: *mut i64, room_len: usize, tags: *mut u16, tags_len: usize) -> u32;
+            periods: *const u8, periods_len: usize, store: *const i32, store_len: usize, sums: *const i64, sums_len: usize,
+            r: *mut i64, r_len: usize, mean: *mut i32, mean_len: usize, room: *mut i64, room_len: usize, tags: *mut u16, tags_len: usize) -> u32;
         pub fn meter_summary(order: u32, taps: u32, capacity: u32, days: *const u8, days_len: usize, slots: *const u16, slots_len: usize,
-            store: *const i32, store_len: usize, sums: *const i64, sums_len: usize, room: *mut i64, room_len: usize, tags: *mut u16, tags_len: usize,
-            stands: &mut u32, highest: &mut f64, lowest: &mut f64, peak: &mut f64) -> u32;
+            periods: *const u8, periods_len: usize, store: *const i32, store_len: usize, sums: *const i64, sums_len: usize,
+            room: *mut i64, room_len: usize, tags: *mut u16, tags_len: usize, stands: &mut u32, highest: &mut f64, lowest: &mut f64, peak: &mut f64) -> u32;
     }
 }
 
@@ -128,12 +131,14 @@ fn predict_in_room(order: u32, taps: u32, h: &[i32], out: &mut [i32], room: &mut
     told(|period| unsafe { declared::meter_predict_in_room(order, taps, h.as_ptr(), h.len(), out.as_mut_ptr(), out.len(), rp, rn, period) })
 }
 
+#[derive(Clone, PartialEq)]
 struct Campaign {
     order: u32,
     taps: u32,
     capacity: u32,
     days: Vec<u8>,
     slots: Vec<u16>,
+    periods: Vec<u8>,
     store: Vec<i32>,
     sums: Vec<i64>,
 }
@@ -143,14 +148,14 @@ macro_rules! lent {
         unsafe {
             declared::$call(
                 $c.order, $c.taps, $c.capacity, $c.days.$ptr(), $c.days.len(), $c.slots.$ptr(), $c.slots.len(),
-                $c.store.$ptr(), $c.store.len(), $c.sums.$ptr(), $c.sums.len() $(, $more)*
+                $c.periods.$ptr(), $c.periods.len(), $c.store.$ptr(), $c.store.len(), $c.sums.$ptr(), $c.sums.len() $(, $more)*
             )
         }
     };
 }
 
 impl Campaign {
-    fn start(order: u32, taps: u32, capacity: u32, days: usize) -> (Told, Campaign) {
+    fn start(order: u32, taps: u32, capacity: u32, days: usize, periods: usize) -> (Told, Campaign) {
         let p = length(order);
         let mut c = Campaign {
             order,
@@ -158,6 +163,7 @@ impl Campaign {
             capacity,
             days: vec![9; days],
             slots: vec![9; 64],
+            periods: vec![9; periods],
             store: vec![9; capacity as usize * p],
             sums: vec![9; p],
         };
@@ -167,6 +173,14 @@ impl Campaign {
     fn enter(&mut self, day: u32, y: &[i32]) -> Result<(u32, usize), u32> {
         let (mut state, mut value) = (0, 0);
         match lent!(meter_enter, self, as_mut_ptr, day, y.as_ptr(), y.len(), &mut state, &mut value) {
+            0 => Ok((state, value)),
+            n => Err(n),
+        }
+    }
+
+    fn capture(&mut self, day: u32, m: u32, y: &[i32]) -> Result<(u32, usize), u32> {
+        let (mut state, mut value) = (0, 0);
+        match lent!(meter_capture, self, as_mut_ptr, day, m, y.as_ptr(), y.len(), &mut state, &mut value) {
             0 => Ok((state, value)),
             n => Err(n),
         }
@@ -263,10 +277,11 @@ fn recordings(facts: &mut Facts) {
 
 fn campaigns(facts: &mut Facts) {
     let (mut room, mut r, mut mean) = (Room::new(7), [0i64; 7], [0i32; 7]);
-    expect!(facts, Campaign::start(3, 3, 65, 366).0 == (9, UNTOLD));
-    expect!(facts, Campaign::start(3, 3, 2, 365).0 == (6, UNTOLD));
-    expect!(facts, Campaign::start(4, 15, 2, 365).0 == (4, 5));
-    let (answer, mut c) = Campaign::start(3, 3, 2, 366);
+    expect!(facts, Campaign::start(3, 3, 65, 366, 63).0 == (9, UNTOLD));
+    expect!(facts, Campaign::start(3, 3, 2, 365, 64).0 == (6, UNTOLD));
+    expect!(facts, Campaign::start(3, 3, 2, 366, 63).0 == (6, UNTOLD));
+    expect!(facts, Campaign::start(4, 15, 2, 365, 63).0 == (4, 5));
+    let (answer, mut c) = Campaign::start(3, 3, 2, 366, 64);
     expect!(facts, answer == (0, 7));
     expect!(facts, c.summary(&mut room) == Ok(None));
     expect!(facts, c.enter(1, &NIGHT) == Ok((1, 0)));
@@ -281,6 +296,45 @@ fn campaigns(facts: &mut Facts) {
     expect!(facts, c.response(&mut r, &mut mean, &mut room) == 14);
 }
 
+// A capture of m periods behind this run-in, each NIGHT.
+fn nights(run_in: i32, m: usize) -> Vec<i32> {
+    [vec![run_in; 7], NIGHT.repeat(m)].concat()
+}
+
+fn captures(facts: &mut Facts) {
+    let (mut room, mut r, mut mean) = (Room::new(7), [0i64; 7], [0i32; 7]);
+    let (_, mut c) = Campaign::start(3, 3, 2, 366, 65);
+    let begun = c.clone();
+    for m in [0, 17, 255, 4294967295] {
+        expect!(facts, c.capture(1, m, &nights(0, 1)) == Err(18) && c.capture(367, m, &NIGHT) == Err(10) && c == begun);
+    }
+    for m in [1, 2, 4, 5, 16] {
+        let y = nights(8388607, m as usize);
+        expect!(facts, c.capture(1, m, &y[1..]) == Err(5) && c.capture(1, m, &y[7..]) == Err(5) && c.enter(1, &y) == Err(5));
+        expect!(facts, c.capture(1, m, &nights(8388608, m as usize)) == Err(7));
+        expect!(facts, c.capture(1, m, &y) == Ok((1, 0)));
+        expect!(facts, c.periods[..2] == [m as u8, 0] && c.periods[64] == 9 && c.store[..7] == NIGHT.map(|z| z * m as i32));
+        expect!(facts, c.capture(1, m, &y) == Err(11));
+        expect!(facts, c.response(&mut r, &mut mean, &mut room) == 0 && r == R.map(|z| 4 * z * i64::from(m)) && mean == H.map(|z| 4 * z));
+        expect!(facts, c.summary(&mut room) == Ok(Some([8.0, -4.0, 8.0])));
+        for broken in [0, 17] {
+            c.periods[0] = broken;
+            expect!(facts, c.counts() == Err(15) && c.withdraw(1) == 15 && c.capture(2, m, &y) == Err(15));
+            c.periods[0] = m as u8;
+        }
+        c.periods[2] = 1;
+        expect!(facts, c.summary(&mut room) == Err(15));
+        c.periods[2] = 0;
+        expect!(facts, c.withdraw(1) == 0 && c.periods == begun.periods && c.store == begun.store && c.sums == begun.sums);
+        for (place, rail) in [(0, -8388608), (7 * m as usize - 1, 8388607)] {
+            let mut hit = y.clone();
+            hit[7 + place] = rail;
+            expect!(facts, c.capture(1, m, &hit) == Ok((2, place)));
+        }
+        expect!(facts, c.capture(1, m, &[vec![8388607; 7], [5, 4, 9, 5, 6, 11, 5].repeat(m as usize)].concat()) == Ok((3, 0)));
+    }
+}
+
 // What the six calls that tell a period answer to a register, all else being as they want it.
 fn each_call(order: u32, t: u32) -> [Told; 6] {
     let p = length(order);
@@ -292,7 +346,7 @@ fn each_call(order: u32, t: u32) -> [Told; 6] {
         recording(order, t, &heard, &mut wide, &mut room),
         predict(order, t, &heard, &mut y),
         predict_in_room(order, t, &heard, &mut y, &mut room.wide),
-        Campaign::start(order, t, 1, 366).0,
+        Campaign::start(order, t, 1, 366, 64).0,
     ]
 }
 
@@ -311,6 +365,7 @@ fn main() -> ExitCode {
     registers(&mut facts);
     recordings(&mut facts);
     campaigns(&mut facts);
+    captures(&mut facts);
     periods(&mut facts);
     let wrong: Vec<_> = facts.iter().filter(|(_, held)| !held).collect();
     for (fact, _) in &wrong {

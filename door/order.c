@@ -1,18 +1,23 @@
-/* Document 01's "Order of checks": for each two checks that stand side by side in a call's list, an input to which both apply, so that the answer
+/* Document 01's "Order of checks", with 18 of request 1 of document 02: for each two checks that stand side by side in a call's list, an input to which both apply, so that the answer
  * tells which comes first. Default taps and counts have one check. `second order` makes the same calls of its own functions and prints the same lines. */
 #include "meter.h"
 #include <stdio.h>
 
 /* Order 2, taps 3: P is 3. A campaign has one slot. */
 enum { ORDER = 2, TAPS = 3, P = 3, ROOM = P + 1, TAGS = P };
-/* The first sample of a recording of zeros whose spread is the smallest that is kept. */
-enum { KEPT = 8 };
+/* The first sample of a recording of zeros whose spread is the smallest that is kept, the rails, and the first number above the range. */
+enum { KEPT = 8, LOWEST = -8388608, HIGHEST = 8388607, BEYOND = HIGHEST + 1 };
+enum { MOST_PERIODS = 16 };
 
 static uint8_t days[METER_DAYS];
 static uint16_t slots[METER_SLOTS];
+static uint8_t periods[METER_SLOTS];
 static int32_t store[METER_SLOTS * P];
 static int64_t sums[P];
-#define RECORD ORDER, TAPS, 1, days, METER_DAYS, slots, METER_SLOTS, store, P, sums, P
+/* How long the tables are lent. */
+static size_t days_len = METER_DAYS, slots_len = METER_SLOTS, periods_len = METER_SLOTS;
+#define TABLES days, days_len, slots, slots_len, periods, periods_len
+#define RECORD ORDER, TAPS, 1, TABLES, store, P, sums, P
 
 static void line(const char *call, const char *checks, uint32_t answer) {
     printf("%s: %s: %u\n", call, checks, answer);
@@ -64,7 +69,7 @@ static struct told predict_in_room(uint32_t order, uint32_t taps, int32_t first,
 
 static struct told start(uint32_t order, uint32_t taps, uint32_t count, size_t store_len, size_t sums_len) {
     uint32_t period = UNWRITTEN;
-    uint32_t answer = meter_start(order, taps, count, days, METER_DAYS, slots, METER_SLOTS, store, store_len, sums, sums_len, &period);
+    uint32_t answer = meter_start(order, taps, count, TABLES, store, store_len, sums, sums_len, &period);
     return (struct told){answer, period};
 }
 
@@ -130,75 +135,229 @@ static void recordings(void) {
 
 /* ---- a campaign ---- */
 
-enum { WHOLE, DAMAGED };
+/* What is wrong with a record that does not hold together. Those from NO_PERIODS to BEYOND_ITS_PERIODS are of a used slot, and that of
+ * NO_PERIODS_OF_ZEROS holds zeros, as a free one does. */
+enum damage {
+    WHOLE, SUM, FREE_PERIODS, PAST_C_PERIODS, NO_PERIODS, NO_PERIODS_OF_ZEROS, MANY_PERIODS, BEYOND_ITS_PERIODS,
+    SHORT_DAYS, SHORT_SLOTS, SHORT_PERIODS, DAMAGES
+};
 
-/* A start; day 1 stands where asked, which uses the only slot; a damaged record has a sum that is none. */
-static void begin(int standing, int damaged) {
-    const int32_t y[P] = {KEPT, 0, 0};
-    uint32_t state;
-    size_t value;
-    start(ORDER, TAPS, 1, P, P);
-    if (standing)
-        meter_enter(RECORD, 1, y, P, &state, &value);
-    sums[0] += damaged;
+static void strike(enum damage damage) {
+    switch (damage) {
+    case SUM: sums[0]++; break;
+    case FREE_PERIODS: periods[0] = 1; break;
+    case PAST_C_PERIODS: periods[METER_SLOTS - 1] = 1; break;
+    case NO_PERIODS:
+    case NO_PERIODS_OF_ZEROS: periods[0] = 0; break;
+    case MANY_PERIODS: periods[0] = MOST_PERIODS + 1; break;
+    case BEYOND_ITS_PERIODS:
+        store[0] = HIGHEST;
+        sums[0] = HIGHEST;
+        break;
+    case SHORT_DAYS: days_len = METER_DAYS - 1; break;
+    case SHORT_SLOTS: slots_len = METER_SLOTS - 1; break;
+    case SHORT_PERIODS: periods_len = METER_SLOTS - 1; break;
+    default: break;
+    }
 }
 
-static void enter(const char *checks, int standing, int damaged, uint32_t day, int32_t first, int32_t other, size_t n) {
+static void mend_tables(void) {
+    days_len = METER_DAYS;
+    slots_len = METER_SLOTS;
+    periods_len = METER_SLOTS;
+}
+
+static int stands(enum damage damage) {
+    return damage >= NO_PERIODS && damage <= BEYOND_ITS_PERIODS;
+}
+
+/* A start; day 1 stands where asked, which uses the only slot; then the damage. */
+static void begin(enum damage damage, int standing) {
+    const int32_t y[P] = {KEPT, 0, 0}, sums_to_zeros[3 * P] = {0, 0, 0, KEPT, 0, 0, -KEPT, 0, 0};
+    uint32_t state;
+    size_t value;
+    mend_tables();
+    start(ORDER, TAPS, 1, P, P);
+    if (standing && damage == NO_PERIODS_OF_ZEROS)
+        meter_capture(RECORD, 1, 2, sums_to_zeros, 3 * P, &state, &value);
+    else if (standing)
+        meter_enter(RECORD, 1, y, P, &state, &value);
+    strike(damage);
+}
+
+/* Each table too short, at a slot count that is none, and at one that is. */
+static void starts(void) {
+    static const char *const checks[2] = {"9 before 6", "6 alone"};
+    for (uint32_t count = 0; count < 2; count++)
+        for (enum damage damage = SHORT_DAYS; damage <= SHORT_PERIODS; damage++) {
+            strike(damage);
+            told_line("start", checks[count], start(ORDER, TAPS, count, P, P));
+            mend_tables();
+        }
+}
+
+/* The answer of an entry, and its two variables, which hold 9 before the call. */
+struct entry {
+    uint32_t answer, state;
+    size_t value;
+};
+
+static void entry_line(const char *call, const char *checks, struct entry e) {
+    printf("%s: %s: %u %u %zu\n", call, checks, e.answer, e.state, e.value);
+}
+
+static struct entry entered(uint32_t day, const int32_t *y, size_t n) {
+    struct entry e = {0, 9, 9};
+    e.answer = meter_enter(RECORD, day, y, n, &e.state, &e.value);
+    return e;
+}
+
+static struct entry captured(uint32_t day, uint32_t m, const int32_t *y, size_t n) {
+    struct entry e = {0, 9, 9};
+    e.answer = meter_capture(RECORD, day, m, y, n, &e.state, &e.value);
+    return e;
+}
+
+static void enter(const char *checks, int standing, uint32_t day, int32_t first, int32_t other, size_t n) {
     const int32_t y[P] = {first, other, other};
-    uint32_t state = 9;
-    size_t value = 9;
-    begin(standing, damaged);
-    uint32_t answer = meter_enter(RECORD, day, y, n, &state, &value);
-    printf("enter: %s: %u %u %zu\n", checks, answer, state, value);
+    begin(WHOLE, standing);
+    entry_line("enter", checks, entered(day, y, n));
 }
 
 /* A dead input is still or dithers by a spread of 7; one that does so at a rail is overloaded. */
 static void enters(void) {
-    enter("15 before 10", 0, DAMAGED, 0, KEPT, 0, P);
-    enter("10 before 5", 0, WHOLE, 0, KEPT, 0, P - 1);
-    enter("5 before 7", 0, WHOLE, 2, 8388608, 0, P - 1);
-    enter("7 before 11", 1, WHOLE, 1, 8388608, 0, P);
-    enter("11 before the verdict", 1, WHOLE, 1, 8388607, 0, P);
-    enter("11 before the verdict", 1, WHOLE, 1, 5, 5, P);
-    enter("11 before the verdict", 1, WHOLE, 1, 5, -2, P);
-    enter("11 before 12", 1, WHOLE, 1, KEPT, 0, P);
-    enter("overloaded before dead", 0, WHOLE, 2, 8388607, 8388607, P);
-    enter("overloaded before dead", 0, WHOLE, 2, 8388607, 8388600, P);
-    enter("overloaded before dead", 0, WHOLE, 2, -8388601, -8388608, P);
-    enter("the verdict before 12", 1, WHOLE, 2, 8388607, 0, P);
-    enter("the verdict before 12", 1, WHOLE, 2, 8388607, 8388600, P);
-    enter("the verdict before 12", 1, WHOLE, 2, 5, 5, P);
-    enter("the verdict before 12", 1, WHOLE, 2, 5, -2, P);
+    enter("10 before 5", 0, 0, KEPT, 0, P - 1);
+    enter("5 before 7", 0, 2, BEYOND, 0, P - 1);
+    enter("7 before 11", 1, 1, BEYOND, 0, P);
+    enter("11 before the verdict", 1, 1, HIGHEST, 0, P);
+    enter("11 before the verdict", 1, 1, 5, 5, P);
+    enter("11 before the verdict", 1, 1, 5, -2, P);
+    enter("11 before 12", 1, 1, KEPT, 0, P);
+    enter("overloaded before dead", 0, 2, HIGHEST, HIGHEST, P);
+    enter("overloaded before dead", 0, 2, HIGHEST, HIGHEST - 7, P);
+    enter("overloaded before dead", 0, 2, LOWEST + 7, LOWEST, P);
+    enter("the verdict before 12", 1, 2, HIGHEST, 0, P);
+    enter("the verdict before 12", 1, 2, HIGHEST, HIGHEST - 7, P);
+    enter("the verdict before 12", 1, 2, 5, 5, P);
+    enter("the verdict before 12", 1, 2, 5, -2, P);
 }
 
-static void withdraws(void) {
-    begin(0, DAMAGED);
+/* A capture's samples: the run-in is P of `run_in`, and behind it stand `first`, as many `other` as it takes, and `last`. */
+enum { MOST = 3 * P };
+struct shape {
+    size_t n;
+    int32_t run_in, first, other, last;
+};
+
+static void shaped(int32_t y[MOST], struct shape s) {
+    for (size_t j = 0; j < s.n; j++)
+        y[j] = j < P ? s.run_in : j == P ? s.first : j + 1 == s.n ? s.last : s.other;
+}
+
+static void capture(const char *checks, int standing, uint32_t day, uint32_t m, struct shape shape) {
+    int32_t y[MOST];
+    shaped(y, shape);
+    begin(WHOLE, standing);
+    entry_line("capture", checks, captured(day, m, y, shape.n));
+}
+
+/* A capture that would be kept, of n samples, and one whose run-in is beyond the range. */
+static struct shape plain(size_t n) {
+    return (struct shape){n, 0, KEPT, 0, 0};
+}
+
+static struct shape beyond(size_t n) {
+    return (struct shape){n, BEYOND, KEPT, 0, 0};
+}
+
+/* Those that are refused before the day's state is looked at. */
+static void refused_captures(void) {
+    capture("10 before 18", 0, 0, 0, plain(P));
+    capture("10 before 18", 0, 367, 17, plain(2 * P));
+    capture("10 before 18", 0, 0, UINT32_MAX, plain(2 * P));
+    capture("18 before 5", 0, 2, 0, plain(2 * P));
+    capture("18 before 5", 0, 2, 17, plain(2 * P));
+    capture("18 before 5", 0, 2, 255, plain(2 * P));
+    capture("18 before 5", 0, 2, 256, plain(P));
+    capture("18 before 5", 0, 2, UINT32_MAX, plain(2 * P));
+    capture("5 before 7", 0, 2, 1, beyond(P));
+    capture("5 before 7", 0, 2, 1, beyond(2 * P - 1));
+    capture("5 before 7", 0, 2, 1, beyond(2 * P + 1));
+    capture("5 before 7", 0, 2, 2, beyond(2 * P));
+    capture("7 before 11", 1, 1, 1, beyond(2 * P));
+    capture("7 before 11", 1, 1, 1, (struct shape){2 * P, 0, KEPT, 0, BEYOND});
+}
+
+/* One period behind a run-in at a rail, and two: one who judges the run-in finds an overload. */
+static struct shape one(int32_t first, int32_t other, int32_t last) {
+    return (struct shape){2 * P, HIGHEST, first, other, last};
+}
+
+static struct shape two(int32_t first, int32_t other, int32_t last) {
+    return (struct shape){3 * P, HIGHEST, first, other, last};
+}
+
+/* Those that are judged, or would be but for 11. */
+static void judged_captures(void) {
+    capture("11 before the verdict", 1, 1, 1, one(LOWEST, 0, 0));
+    capture("11 before the verdict", 1, 1, 1, one(5, 5, 5));
+    capture("11 before the verdict", 1, 1, 1, one(5, -2, -2));
+    capture("11 before 12", 1, 1, 1, one(KEPT, 0, 0));
+    capture("overloaded before dead", 0, 2, 1, one(HIGHEST - 7, HIGHEST - 7, HIGHEST));
+    capture("overloaded before dead", 0, 2, 2, two(HIGHEST - 7, HIGHEST - 7, HIGHEST));
+    capture("the run-in is not judged", 0, 2, 1, one(KEPT, 0, 0));
+    capture("the run-in is not judged", 0, 2, 1, one(5, 5, 5));
+    capture("the run-in is not judged", 0, 2, 2, two(5, -2, -2));
+    capture("the run-in is not counted", 0, 2, 1, one(LOWEST, 0, 0));
+    capture("the run-in is not counted", 0, 2, 1, one(0, 0, HIGHEST));
+    capture("the run-in is not counted", 0, 2, 2, two(0, 0, HIGHEST));
+    capture("the verdict before 12", 1, 2, 1, one(LOWEST, 0, 0));
+    capture("the verdict before 12", 1, 2, 2, two(0, 0, HIGHEST));
+    capture("the verdict before 12", 1, 2, 1, one(5, 5, 5));
+    capture("the verdict before 12", 1, 2, 2, two(5, -2, -2));
+    capture("12 alone", 1, 2, 1, one(KEPT, 0, 0));
+    capture("12 alone", 1, 2, 2, two(KEPT, 0, 0));
+}
+
+/* Every call that names a day, on day 0. */
+static void before_10(enum damage damage) {
+    const int32_t y[P] = {KEPT, 0, 0};
+    int32_t several[MOST];
+    shaped(several, plain(2 * P));
+    begin(damage, stands(damage));
+    entry_line("enter", "15 before 10", entered(0, y, P));
+    entry_line("capture", "15 before 10", captured(0, 1, several, 2 * P));
     line("withdraw", "15 before 10", meter_withdraw(RECORD, 0));
-    begin(0, WHOLE);
-    line("withdraw", "10 before 13", meter_withdraw(RECORD, 0));
 }
 
 /* Each of the lent lengths is one too short in its turn; a summary has no outputs but the room. */
-static void asks(int damaged, const char *response_checks, const char *summary_checks) {
+static void asks(enum damage damage, const char *response_checks, const char *summary_checks) {
     int64_t r[P], room[ROOM];
     int32_t mean[P];
     uint16_t tags[TAGS];
-    uint32_t stands;
+    uint32_t told;
     double levels[3];
-    begin(0, damaged);
+    begin(damage, stands(damage));
     for (int i = 0; i < 4; i++)
         line("response", response_checks, meter_response(RECORD, r, P - (i == 0), mean, P - (i == 1), room, ROOM - (i == 2), tags, TAGS - (i == 3)));
     for (int i = 2; i < 4; i++)
         line("summary", summary_checks,
-             meter_summary(RECORD, room, ROOM - (i == 2), tags, TAGS - (i == 3), &stands, &levels[0], &levels[1], &levels[2]));
+             meter_summary(RECORD, room, ROOM - (i == 2), tags, TAGS - (i == 3), &told, &levels[0], &levels[1], &levels[2]));
 }
 
 int main(void) {
     registers();
     recordings();
+    starts();
     enters();
-    withdraws();
-    asks(DAMAGED, "15 before 6", "15 before 6");
+    refused_captures();
+    judged_captures();
+    for (enum damage damage = SUM; damage < DAMAGES; damage++) {
+        before_10(damage);
+        asks(damage, "15 before 6", "15 before 6");
+    }
+    begin(WHOLE, 0);
+    line("withdraw", "10 before 13", meter_withdraw(RECORD, 0));
     asks(WHOLE, "6 before 14", "6 before nothing stands");
     return 0;
 }

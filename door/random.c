@@ -251,58 +251,162 @@ static void predict_in_room_case(void) {
     free(room);
 }
 
+/* ---- the nights of a campaign ---- */
+
+/* ONE_TOO_MANY is more periods than any capture may have, few enough to bring all their samples. */
+enum { MOST_PERIODS = 16, ONE_TOO_MANY = MOST_PERIODS + 1 };
+
+static uint32_t any_day(void) {
+    static const uint32_t odd[4] = {0, 367, 366, 400};
+    return below(20) == 0 ? odd[below(4)] : (uint32_t)(1 + below(6));
+}
+
+/* Most often in range; the largest is one whose m + 1 is no 32-bit number. */
+static uint32_t any_periods(void) {
+    static const uint32_t all[13] = {0, 1, 1, 2, 2, 3, 4, 5, MOST_PERIODS, MOST_PERIODS, ONE_TOO_MANY, 255, UINT32_MAX};
+    return all[below(13)];
+}
+
+/* Of a run-in and m periods, one in five a sample or a period too short or too long. */
+static size_t drawn_length(uint32_t m, size_t p) {
+    if (m > ONE_TOO_MANY)
+        return p * below(3);
+    size_t n = ((size_t)m + 1) * p;
+    switch (below(20)) {
+    case 0: return n - 1;
+    case 1: return n + 1;
+    case 2: return n - p;
+    case 3: return n + p;
+    default: return n;
+    }
+}
+
+/* All at a rail, one at a rail, one above the range, or small ones. */
+static void draw_run_in(int32_t *y, size_t p) {
+    uint64_t style = below(8);
+    size_t loud = below(p);
+    int32_t rail = below(2) == 0 ? HIGHEST : LOWEST;
+    for (size_t j = 0; j < p; j++) {
+        if (style < 2 || (style < 4 && j == loud))
+            y[j] = rail;
+        else
+            y[j] = style == 4 && j == loud ? HIGHEST + 1 : between(-50, 50);
+    }
+}
+
+/* Any samples, now and then with a rail at the first place or at the last; or each place next to a rail in every period, which sums to a slot's
+ * bounds; or each second period the one before it upside down, of which an even number sums to zeros. */
+static void draw_counting(int32_t *y, size_t n, size_t p) {
+    uint64_t style = below(8);
+    if (style < 2) {
+        for (size_t j = 0; j < n; j++)
+            if (style == 0)
+                y[j] = j % p % 2 == 0 ? LOWEST + 1 : HIGHEST - 1;
+            else
+                y[j] = j / p % 2 == 0 ? 9 : -9;
+        return;
+    }
+    draw_samples(y, n);
+    if (below(6) == 0) {
+        size_t end = below(2) == 0 ? 0 : n - 1;
+        y[end] = below(2) == 0 ? HIGHEST : LOWEST;
+    }
+}
+
+static void draw_capture(int32_t *y, size_t n, size_t p) {
+    if (n == 0)
+        return;
+    if (n <= p) {
+        draw_samples(y, n);
+        return;
+    }
+    draw_run_in(y, p);
+    draw_counting(y + p, n - p, p);
+}
+
 /* ---- a campaign: its start, and a run of calls on what that left, some on a damaged record ---- */
 
 struct held {
     uint32_t order, taps, count;
     uint8_t *days;
     uint16_t *slots;
+    uint8_t *periods;
     int32_t *store;
     int64_t *sums;
-    size_t days_len, slots_len, store_len, sums_len;
+    size_t days_len, slots_len, periods_len, store_len, sums_len;
 };
-#define RECORD c->order, c->taps, c->count, c->days, c->days_len, c->slots, c->slots_len, c->store, c->store_len, c->sums, c->sums_len
-#define MEMORY d8(c->days, c->days_len), d16(c->slots, c->slots_len), d32(c->store, c->store_len), d64(c->sums, c->sums_len)
-#define MEMORY_PRINTED "%" PRId64 " %" PRId64 " %" PRId64 " %" PRId64 "\n"
+#define RECORD c->order, c->taps, c->count, c->days, c->days_len, c->slots, c->slots_len, c->periods, c->periods_len, \
+               c->store, c->store_len, c->sums, c->sums_len
+#define MEMORY d8(c->days, c->days_len), d16(c->slots, c->slots_len), d8(c->periods, c->periods_len), \
+               d32(c->store, c->store_len), d64(c->sums, c->sums_len)
+#define MEMORY_PRINTED "%" PRId64 " %" PRId64 " %" PRId64 " %" PRId64 " %" PRId64 "\n"
+
+/* Kinds of damage: those from TO_AN_EDGE to TO_ONE_PERIOD strike a used slot, IN_THE_FIRST_C one of the first C, which may be free. KINDS is none. */
+enum { DAY, SLOT, SAMPLE, SUM, COUNT, TO_AN_EDGE, TO_NO_PERIODS, TO_TOO_MANY, TO_ONE_PERIOD, ANY_PERIODS, IN_THE_FIRST_C, KINDS };
 
 /* Where damage strikes, and what stood there. */
 struct damage {
-    size_t day, slot, sample, sum;
+    size_t day, slot, period, sample, sum;
     uint8_t state_was;
     uint16_t slot_was;
+    uint8_t period_was;
     int32_t sample_was;
     int64_t sum_was;
     uint32_t count_was;
 };
 
-/* The store's place for this one of the sums in the first used slot from `slot` on, going round; past the store where there is none. */
-static size_t used_place(const struct held *c, size_t slot, size_t sum) {
+/* The first used slot from `slot` on that the periods reach, going round; past all slots where there is none. */
+static size_t used_slot(const struct held *c, size_t slot) {
     for (size_t i = 0; i < c->slots_len; i++) {
         size_t s = (slot + i) % c->slots_len;
-        if (c->slots[s] != 0)
-            return s * period_of(c->order) + sum;
+        if (c->slots[s] != 0 && s < c->periods_len)
+            return s;
     }
-    return c->store_len;
+    return c->slots_len;
 }
 
-/* One call in six meets damage. The last kind moves a stored sample to a rail and its sum with it, so that only the sample itself tells. */
+/* A drawn place of each list; where the kind strikes a used slot, its places. The search for one begins in the first C, so that each used slot is
+ * struck. */
+static struct damage drawn_places(const struct held *c, uint64_t kind) {
+    size_t day = below(c->days_len), slot = below(c->slots_len), period = below(c->periods_len);
+    size_t sample = below(c->store_len), sum = below(c->sums_len), first_c = c->count == 0 ? 1 : c->count;
+    size_t used = used_slot(c, slot % first_c);
+    if (kind >= TO_AN_EDGE && kind <= TO_ONE_PERIOD && used < c->slots_len) {
+        period = used;
+        if (used * period_of(c->order) + sum < c->store_len)
+            sample = used * period_of(c->order) + sum;
+    }
+    if (kind == IN_THE_FIRST_C)
+        period %= first_c;
+    return (struct damage){day, slot, period, sample, sum, c->days[day], c->slots[slot], c->periods[period], c->store[sample], c->sums[sum], c->count};
+}
+
+/* A stored number moves to the lowest or the highest that its periods allow, or one beyond, and the sum of its place with it, so that only the slot
+ * itself tells. */
+static void move_to_edge(struct held *c, const struct damage *d, uint64_t edge) {
+    int32_t m = c->periods[d->period], lowest = (LOWEST + 1) * m, highest = (HIGHEST - 1) * m;
+    const int32_t edges[4] = {lowest, lowest - 1, highest, highest + 1};
+    c->store[d->sample] = edges[edge];
+    c->sums[d->sum] += (int64_t)edges[edge] - d->sample_was;
+}
+
+/* One call in five meets damage. */
 static struct damage damaged(struct held *c) {
-    uint64_t kind = below(6) == 0 ? below(6) : 9;
-    size_t day = below(c->days_len), slot = below(c->slots_len), sample = below(c->store_len), sum = below(c->sums_len);
-    int32_t rail = below(2) == 0 ? HIGHEST : LOWEST;
-    if (kind == 5 && used_place(c, slot, sum) < c->store_len)
-        sample = used_place(c, slot, sum);
-    struct damage d = {day, slot, sample, sum, c->days[day], c->slots[slot], c->store[sample], c->sums[sum], c->count};
+    uint64_t kind = below(5) == 0 ? below(KINDS) : KINDS;
+    struct damage d = drawn_places(c, kind);
+    uint64_t edge = below(4);
     switch (kind) {
-    case 0: c->days[day]++; break;
-    case 1: c->slots[slot] ^= 1; break;
-    case 2: c->store[sample]++; break;
-    case 3: c->sums[sum]--; break;
-    case 4: c->count++; break;
-    case 5:
-        c->store[sample] = rail;
-        c->sums[sum] += (int64_t)rail - d.sample_was;
-        break;
+    case DAY: c->days[d.day]++; break;
+    case SLOT: c->slots[d.slot] ^= 1; break;
+    case SAMPLE: c->store[d.sample]++; break;
+    case SUM: c->sums[d.sum]--; break;
+    case COUNT: c->count++; break;
+    case TO_AN_EDGE: move_to_edge(c, &d, edge); break;
+    case TO_NO_PERIODS: c->periods[d.period] = 0; break;
+    case TO_TOO_MANY: c->periods[d.period] = ONE_TOO_MANY; break;
+    case TO_ONE_PERIOD: c->periods[d.period] = 1; break;
+    case ANY_PERIODS:
+    case IN_THE_FIRST_C: c->periods[d.period]++; break;
     }
     return d;
 }
@@ -310,14 +414,10 @@ static struct damage damaged(struct held *c) {
 static void mend(struct held *c, const struct damage *d) {
     c->days[d->day] = d->state_was;
     c->slots[d->slot] = d->slot_was;
+    c->periods[d->period] = d->period_was;
     c->store[d->sample] = d->sample_was;
     c->sums[d->sum] = d->sum_was;
     c->count = d->count_was;
-}
-
-static uint32_t any_day(void) {
-    static const uint32_t odd[4] = {0, 367, 366, 400};
-    return below(20) == 0 ? odd[below(4)] : (uint32_t)(1 + below(6));
 }
 
 static uint32_t enter_call(struct held *c) {
@@ -327,6 +427,18 @@ static uint32_t enter_call(struct held *c) {
     draw_samples(y, n);
     uint32_t answer = meter_enter(RECORD, day, y, n, &state, &value);
     printf("%" PRIu64 " enter %u %u %zu " MEMORY_PRINTED, number, answer, state, value, MEMORY);
+    free(y);
+    return answer;
+}
+
+static uint32_t capture_call(struct held *c) {
+    uint32_t day = any_day(), m = any_periods(), state = 9;
+    size_t p = period_of(c->order), n = drawn_length(m, p), value = 9;
+    /* One place more, so that the list of no samples has a pointer too. */
+    FILLED(int32_t, y, n + 1);
+    draw_capture(y, n, p);
+    uint32_t answer = meter_capture(RECORD, day, m, y, n, &state, &value);
+    printf("%" PRIu64 " capture %u %u %zu " MEMORY_PRINTED, number, answer, state, value, MEMORY);
     free(y);
     return answer;
 }
@@ -372,32 +484,63 @@ static uint32_t asked_call(struct held *c, int summed) {
 }
 
 static uint32_t campaign_call(struct held *c, uint64_t what) {
-    return what < 5 ? enter_call(c) : what < 7 ? withdraw_call(c) : what == 7 ? counts_call(c) : asked_call(c, what == 9);
+    if (what < 4)
+        return enter_call(c);
+    if (what < 8)
+        return capture_call(c);
+    if (what < 10)
+        return withdraw_call(c);
+    return what == 10 ? counts_call(c) : asked_call(c, what == 12);
+}
+
+/* From this order on a campaign has few slots and few calls. */
+enum { LONG_ORDER = 12 };
+
+/* Most often the order's own, so that most starts are accepted. */
+static uint32_t campaign_taps(uint32_t order) {
+    uint64_t any = below(4) == 0;
+    uint32_t taps = 0;
+    return !any && meter_default_taps(order, &taps) == 0 ? taps : any_taps(order);
+}
+
+/* One in three has a single slot, which is soon used. */
+static uint32_t any_count(uint32_t order) {
+    static const uint32_t odd[3] = {0, 65, 64};
+    uint32_t few = (uint32_t)(1 + below(order >= LONG_ORDER ? 3 : 8));
+    uint64_t sort = below(15);
+    if (sort == 0 && order < LONG_ORDER)
+        return odd[below(3)];
+    return sort > 0 && sort < 6 ? 1 : few;
+}
+
+/* One table in twenty is too short. */
+static size_t table_length(size_t n) {
+    return below(20) == 0 ? n - 1 : n + below(3);
 }
 
 static void campaign_case(void) {
-    static const uint32_t odd_counts[3] = {0, 65, 64};
-    uint32_t order = any_order(), taps = any_taps(order), count = (uint32_t)(1 + below(order >= 12 ? 3 : 8));
-    size_t p = period_of(order);
-    if (below(15) == 0 && order < 12)
-        count = odd_counts[below(3)];
-    size_t store_len = near((count == 0 ? 1 : count) * p), sums_len = near(p);
-    size_t days_len = below(20) == 0 ? 365 : 366 + below(3), slots_len = below(20) == 0 ? 63 : 64 + below(3);
+    uint32_t order = any_order(), taps = campaign_taps(order), count = any_count(order), period = UNWRITTEN;
+    size_t p = period_of(order), store_len = near((count == 0 ? 1 : count) * p), sums_len = near(p);
+    size_t days_len = table_length(METER_DAYS), slots_len = table_length(METER_SLOTS), periods_len = table_length(METER_SLOTS);
     FILLED(uint8_t, days, days_len);
     FILLED(uint16_t, slots, slots_len);
+    FILLED(uint8_t, periods, periods_len);
     FILLED(int32_t, store, store_len);
     FILLED(int64_t, sums, sums_len);
-    struct held campaign = {order, taps, count, days, slots, store, sums, days_len, slots_len, store_len, sums_len}, *c = &campaign;
-    uint32_t period = UNWRITTEN, answer = meter_start(RECORD, &period);
-    printf("%" PRIu64 " start %u %u " MEMORY_PRINTED, number, answer, period, MEMORY);
-    for (uint64_t steps = order >= 12 ? 2 + below(3) : 3 + below(12); steps > 0; steps--) {
-        uint64_t what = below(10);
+    struct held campaign = {order, taps, count, days, slots, periods, store, sums, days_len, slots_len, periods_len, store_len, sums_len};
+    struct held *c = &campaign;
+    uint32_t started = meter_start(RECORD, &period);
+    printf("%" PRIu64 " start %u %u " MEMORY_PRINTED, number, started, period, MEMORY);
+    /* Where the start was refused the record is none, and every call is refused alike. */
+    for (uint64_t steps = 2 + below(started == 0 && order < LONG_ORDER ? 15 : 4); steps > 0; steps--) {
+        uint64_t what = below(13);
         struct damage d = damaged(c);
         if (campaign_call(c, what) == 15)
             mend(c, &d);
     }
     free(days);
     free(slots);
+    free(periods);
     free(store);
     free(sums);
 }

@@ -12,13 +12,14 @@ static uint32_t order, taps;
 static size_t p;
 static uint8_t days[METER_DAYS];
 static uint16_t slots[METER_SLOTS];
+static uint8_t periods[METER_SLOTS];
 static int32_t y[MOST_P], store[MOST_P], mean[MOST_P];
 static int64_t sums[MOST_P], r[MOST_P], wide[2 * MOST_P + 1];
 static uint16_t tags[2 * MOST_P + 1];
 static uint32_t stands;
 static int made, wrong;
 
-#define RECORD order, taps, 1, days, METER_DAYS, slots, METER_SLOTS, store, p, sums, p
+#define RECORD order, taps, 1, days, METER_DAYS, slots, METER_SLOTS, periods, METER_SLOTS, store, p, sums, p
 
 static uint32_t answer_of(int user, size_t wide_len, size_t tags_len) {
     uint32_t period;

@@ -1,5 +1,6 @@
-/* The stack that a prediction takes, held to what meter.h says. Each call is made on a stack of its own that was painted before, and what is no longer
- * paint was used. Prints the most that each kind of call took, and fails where that is more than the header says. */
+/* The stack that a prediction takes, held to what meter.h says, and the stack of each call on a campaign, held to what docs/TRUST.md says. Each call is
+ * made on a stack of its own that was painted before, and what is no longer paint was used. Prints the most that each kind of call took, and fails where
+ * that is more than was said. */
 #define _XOPEN_SOURCE 700
 #include "meter.h"
 #include <stdio.h>
@@ -7,10 +8,10 @@
 #include <string.h>
 #include <ucontext.h>
 
-enum { PAINT = 0xa5, STACK = 1 << 20, SHORT_ORDERS = 12, ORDERS = 16, MOST_P = 65535 };
+enum { PAINT = 0xa5, STACK = 1 << 20, SHORT_ORDERS = 12, ORDERS = 16, MOST_P = 65535, MOST_M = 16 };
 
-/* What meter.h says, in bytes. */
-enum { REFUSED = 1024, SHORT = 40 * 1024, LONG = 520 * 1024, IN_ROOM = 2048 };
+/* What meter.h says of a prediction and docs/TRUST.md of a campaign, in bytes. */
+enum { REFUSED = 1024, SHORT = 40 * 1024, LONG = 520 * 1024, IN_ROOM = 2048, CAMPAIGN = 16 * 1024 };
 
 static unsigned char stack[STACK];
 static ucontext_t here, there;
@@ -18,18 +19,20 @@ static int32_t h[MOST_P], out[MOST_P];
 static int64_t room[MOST_P + 1];
 static int wrong;
 
-/* The call that is made on the painted stack, and its answer with the period. */
-static struct { uint32_t order, taps; size_t h_len, out_len, room_len; int lent, none; } call;
+/* What the call that is made on the painted stack is given, and its answer with the period. */
+static struct { uint32_t order, taps; size_t h_len, out_len, room_len; int lent; } call;
 static uint32_t answer, period;
+static uint32_t (*work)(void);
 
-static void make(void) {
-    if (call.none)
-        answer = 0;
-    else if (call.lent)
-        answer = meter_predict_in_room(call.order, call.taps, h, call.h_len, out, call.out_len, room, call.room_len, &period);
-    else
-        answer = meter_predict(call.order, call.taps, h, call.h_len, out, call.out_len, &period);
+static uint32_t nothing(void) { return 0; }
+
+static uint32_t predict(void) {
+    if (call.lent)
+        return meter_predict_in_room(call.order, call.taps, h, call.h_len, out, call.out_len, room, call.room_len, &period);
+    return meter_predict(call.order, call.taps, h, call.h_len, out, call.out_len, &period);
 }
+
+static void make(void) { answer = work(); }
 
 static size_t used(void) {
     memset(stack, PAINT, STACK);
@@ -46,11 +49,11 @@ static size_t used(void) {
 }
 
 /* Less what a call of nothing takes. */
-static size_t taken(uint32_t expected) {
-    call.none = 1;
-    size_t nothing = used();
-    call.none = 0;
-    size_t bytes = used() - nothing;
+static size_t taken(uint32_t (*by)(void), uint32_t expected) {
+    work = nothing;
+    size_t none = used();
+    work = by;
+    size_t bytes = used() - none;
     if (answer != expected) {
         printf("wrong: order %u answers %u, not %u\n", call.order, answer, expected);
         wrong = 1;
@@ -85,7 +88,7 @@ static size_t refused(uint32_t order, int lent) {
         case 6: *(lent ? &call.room_len : &call.out_len) -= 1; break;
         default: h[1] = 8388608; break;
         }
-        most = larger(most, taken(number));
+        most = larger(most, taken(predict, number));
     }
     return most;
 }
@@ -95,16 +98,78 @@ static size_t worked(uint32_t order, int lent, int64_t first) {
     set(order, lent);
     room[0] = first;
     h[1] = h[0] = 8388607;
-    size_t most = taken(8);
+    size_t most = taken(predict, 8);
     set(order, lent);
-    return larger(most, taken(0));
+    return larger(most, taken(predict, 0));
 }
 
 static void hold(const char *what, size_t bytes, size_t most) {
     printf("stack: %s: %zu bytes\n", what, bytes);
     if (bytes > most) {
-        printf("wrong: meter.h says at most %zu\n", most);
+        printf("wrong: at most %zu were said\n", most);
         wrong = 1;
+    }
+}
+
+/* ---- a campaign of one slot ---- */
+
+static uint8_t days[METER_DAYS], periods[METER_SLOTS];
+static uint16_t slots[METER_SLOTS], tags[MOST_P];
+static int32_t night[(MOST_M + 1) * MOST_P], store[MOST_P], mean[MOST_P];
+static int64_t sums[MOST_P], r[MOST_P];
+static uint32_t m, state, numbers[5];
+static size_t p, value;
+static double levels[3];
+
+#define RECORD call.order, call.taps, 1, days, METER_DAYS, slots, METER_SLOTS, periods, METER_SLOTS, store, p, sums, p
+#define ROOM room, p + 1, tags, p
+
+static uint32_t start(void) { return meter_start(RECORD, &period); }
+static uint32_t enter(void) { return meter_enter(RECORD, 1, night, p, &state, &value); }
+static uint32_t capture(void) { return meter_capture(RECORD, 1, m, night, (m + 1) * p, &state, &value); }
+static uint32_t withdraw(void) { return meter_withdraw(RECORD, 1); }
+static uint32_t counts(void) { return meter_counts(RECORD, &numbers[0], &numbers[1], &numbers[2], &numbers[3], &numbers[4]); }
+static uint32_t response(void) { return meter_response(RECORD, r, p, mean, p, ROOM); }
+static uint32_t summary(void) { return meter_summary(RECORD, ROOM, &numbers[0], &levels[0], &levels[1], &levels[2]); }
+
+/* The calls, in an order in which each is accepted, each with the m that a capture has then, and whether the night is dead. */
+static const struct { const char *name; uint32_t (*by)(void); uint32_t m; int dead; } calls[] = {
+    {"meter_start", start, 0, 0}, {"meter_enter", enter, 0, 1}, {"meter_enter", enter, 0, 0},
+    {"meter_counts", counts, 0, 0}, {"meter_response", response, 0, 0}, {"meter_summary", summary, 0, 0}, {"meter_withdraw", withdraw, 0, 0},
+    {"meter_capture", capture, MOST_M, 1}, {"meter_capture", capture, 1, 0}, {"meter_withdraw", withdraw, 0, 0}, {"meter_capture", capture, MOST_M, 0},
+    {"meter_counts", counts, 0, 0}, {"meter_response", response, 0, 0}, {"meter_summary", summary, 0, 0}, {"meter_withdraw", withdraw, 0, 0},
+};
+enum { CALLS = sizeof calls / sizeof *calls };
+
+/* The most that each of the calls took, at every order. */
+static size_t took[CALLS];
+
+static void campaign(uint32_t order) {
+    set(order, 0);
+    p = call.h_len;
+    for (size_t i = 0; i < CALLS; i++) {
+        m = calls[i].m;
+        for (size_t j = 0; j < (MOST_M + 1) * p; j++)
+            night[j] = calls[i].dead ? 0 : (int32_t)(j * 7919 % 20011) - 10000;
+        took[i] = larger(took[i], taken(calls[i].by, METER_ACCEPTED));
+    }
+}
+
+static void campaigns(void) {
+    /* The loader finds memcpy at its first call, on the caller's stack, so one campaign goes before. */
+    campaign(2);
+    memset(took, 0, sizeof took);
+    for (uint32_t order = 2; order <= ORDERS; order++)
+        campaign(order);
+    for (size_t i = 0; i < CALLS; i++) {
+        size_t most = 0, first = i;
+        for (size_t k = 0; k < CALLS; k++)
+            if (strcmp(calls[k].name, calls[i].name) == 0) {
+                most = larger(most, took[k]);
+                first = k < first ? k : first;
+            }
+        if (first == i)
+            hold(calls[i].name, most, CAMPAIGN);
     }
 }
 
@@ -124,5 +189,6 @@ int main(void) {
     hold("meter_predict up to order 12", few, SHORT);
     hold("meter_predict from order 13", many, LONG);
     hold("meter_predict_in_room", lent, IN_ROOM);
+    campaigns();
     return wrong;
 }

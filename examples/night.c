@@ -1,16 +1,18 @@
-/* A campaign of order 3 with 2 slots, from C: its taps are mistyped once, three nights are entered, and the mean of those that stand is printed. */
+/* A campaign of order 3 with 2 slots, from C: its taps are mistyped once, four nights are entered, one of them a capture of two periods, and the mean of
+ * those that stand is printed. */
 #include "meter.h"
 #include <inttypes.h>
 #include <stdio.h>
 
-enum { ORDER = 3, TAPS = 3, MISTYPED = 7, P = 7, SLOT_COUNT = 2 };
+enum { ORDER = 3, TAPS = 3, MISTYPED = 7, P = 7, SLOT_COUNT = 2, PERIODS = 2 };
 
 static uint8_t days[METER_DAYS];
 static uint16_t slots[METER_SLOTS];
+static uint8_t periods[METER_SLOTS];
 static int32_t store[SLOT_COUNT * P];
 static int64_t sums[P];
 
-#define MEMORY days, METER_DAYS, slots, METER_SLOTS, store, SLOT_COUNT * P, sums, P
+#define MEMORY days, METER_DAYS, slots, METER_SLOTS, periods, METER_SLOTS, store, SLOT_COUNT * P, sums, P
 #define CAMPAIGN ORDER, TAPS, SLOT_COUNT, MEMORY
 
 static uint32_t start(uint32_t taps) {
@@ -23,16 +25,33 @@ static uint32_t start(uint32_t taps) {
     return answer;
 }
 
-static void enter(uint32_t day, const int32_t *y) {
+static void tell(uint32_t day, uint32_t answer, uint32_t state) {
     static const char *const verdicts[] = {"", "kept", "overloaded", "dead"};
+    printf("day %" PRIu32 ": %s\n", day, answer != METER_ACCEPTED ? meter_explain(answer) : verdicts[state]);
+}
+
+static void enter(uint32_t day, const int32_t *y) {
     uint32_t state = METER_UNSEEN;
     size_t value = 0;
     uint32_t answer = meter_enter(CAMPAIGN, day, y, P, &state, &value);
-    printf("day %" PRIu32 ": %s\n", day, answer != METER_ACCEPTED ? meter_explain(answer) : verdicts[state]);
+    tell(day, answer, state);
+}
+
+static void capture(uint32_t day, const int32_t *y) {
+    uint32_t state = METER_UNSEEN;
+    size_t value = 0;
+    uint32_t answer = meter_capture(CAMPAIGN, day, PERIODS, y, (PERIODS + 1) * P, &state, &value);
+    tell(day, answer, state);
 }
 
 int main(void) {
     const int32_t heard[P] = {-4, -12, -4, 12, 12, -12, 4}, unplugged[P] = {5, 4, 7, 5, 6, 5, 3};
+    /* The first row is the run-in: it is dropped, so that its clicks do no harm. */
+    const int32_t thrice[(PERIODS + 1) * P] = {
+        0, 8388607, -8388608, 0, 9, -9, 3,
+        -4, -12, -4, 12, 12, -12, 4,
+        -3, -13, -2, 12, 10, -11, 3,
+    };
     int64_t r[P], room[P + 1];
     int32_t mean[P];
     uint16_t tags[P];
@@ -41,6 +60,7 @@ int main(void) {
     if (answer == METER_ACCEPTED) {
         enter(1, heard);
         enter(2, unplugged);
+        capture(3, thrice);
         enter(367, heard);
         answer = meter_response(CAMPAIGN, r, P, mean, P, room, P + 1, tags, P);
     }

@@ -44,7 +44,8 @@ enum {
     METER_NOTHING_STANDING = 14,
     METER_RECORD_BROKEN = 15,
     METER_WINDOW_OUT_OF_RANGE = 16,
-    METER_BEYOND_THE_PROGRAM = 17
+    METER_BEYOND_THE_PROGRAM = 17,
+    METER_PERIODS_OUT_OF_RANGE = 18
 };
 
 /* An answer in words. It is made of this header alone: the library has no such function. */
@@ -55,7 +56,7 @@ static inline const char *meter_explain(uint32_t n) {
     case METER_TAPS_TOO_LARGE: return "taps not below 2^N";
     case METER_TAP_0_CLEAR: return "tap 0 clear";
     case METER_NOT_MAXIMAL: return "register not maximal";
-    case METER_WRONG_LENGTH: return "recording or response not exactly P long";
+    case METER_WRONG_LENGTH: return "recording or response not exactly P long, capture not exactly (m+1)*P";
     case METER_ROOM_TOO_SHORT: return "output or working room too short";
     case METER_VALUE_OUT_OF_RANGE: return "a value outside the sample range";
     case METER_PREDICTED_OUT_OF_RANGE: return "a predicted sample outside the sample range";
@@ -67,7 +68,8 @@ static inline const char *meter_explain(uint32_t n) {
     case METER_NOTHING_STANDING: return "nothing standing";
     case METER_RECORD_BROKEN: return "record does not hold together";
     case METER_WINDOW_OUT_OF_RANGE: return "player's window zero or not below 2^N";
-    case METER_BEYOND_THE_PROGRAM: return "the program only: order above 9 or slots above 8";
+    case METER_BEYOND_THE_PROGRAM: return "the program only: order above 9, slots above 8, or 5 to 16 periods";
+    case METER_PERIODS_OUT_OF_RANGE: return "periods not 1 to 16";
     default: return "unknown";
     }
 }
@@ -112,43 +114,56 @@ uint32_t meter_predict(uint32_t order, uint32_t taps, const int32_t *h, size_t h
 uint32_t meter_predict_in_room(uint32_t order, uint32_t taps, const int32_t *h, size_t h_len, int32_t *out, size_t out_len,
                                int64_t *room, size_t room_len, uint32_t *period);
 
-/* ---- a campaign: the record is order, taps and capacity, which no call changes, and the two tables `days` (366) and `slots` (64).
- * A shorter table is room too short at a start, 6 in its place; every other call refuses it with 15 before all else. The store is
- * capacity * P samples, the sums P wide numbers. ---- */
+/* ---- a campaign: the record is order, taps and capacity, which no call changes, and the three tables `days` (366), `slots` (64) and `periods` (64).
+ * A used slot's entry of `periods` is how many periods its night had, 1 to 16; every other entry is 0. A shorter table is room too short at a start, 6
+ * in its place; every other call refuses it with 15 before all else. The store is capacity * P samples, the sums P wide numbers. ---- */
 
 /* Every day unseen, every slot free, zeros in the store and the sums: 1, 2, 3, 4, 9, 6. */
 uint32_t meter_start(uint32_t order, uint32_t taps, uint32_t capacity, uint8_t *days, size_t days_len,
-                     uint16_t *slots, size_t slots_len, int32_t *store, size_t store_len, int64_t *sums, size_t sums_len,
+                     uint16_t *slots, size_t slots_len, uint8_t *periods, size_t periods_len,
+                     int32_t *store, size_t store_len, int64_t *sums, size_t sums_len,
                      uint32_t *period);
 
-/* A day's recording judged: 15, 10, 5, 7, 11, and 12 after the verdict. Overloaded: some sample is -8388608 or 8388607, the rails. Otherwise dead: its
+/* A day's recording of one period, P samples, judged: 15, 10, 5, 7, 11, and 12 after the verdict. Overloaded: some sample is -8388608 or 8388607, the rails. Otherwise dead: its
  * largest sample minus its smallest is 7 or less. Otherwise it is kept. `state` is the state that the verdict gives the day, and `value` the slot of
  * one that stands, the first place at a rail of one that is overloaded, 0 of one that is dead. */
 uint32_t meter_enter(uint32_t order, uint32_t taps, uint32_t capacity, uint8_t *days, size_t days_len,
-                     uint16_t *slots, size_t slots_len, int32_t *store, size_t store_len, int64_t *sums, size_t sums_len,
+                     uint16_t *slots, size_t slots_len, uint8_t *periods, size_t periods_len,
+                     int32_t *store, size_t store_len, int64_t *sums, size_t sums_len,
                      uint32_t day, const int32_t *y, size_t y_len, uint32_t *state, size_t *value);
+
+/* A day's capture of m+1 periods, (m+1) * P samples, m from 1 to 16: 15, 10, 18, 5, 7, 11, and 12 after the verdict. The first period is the run-in and
+ * is dropped; the other m are judged as one recording, whose places count from 0, and kept they are summed place by place. */
+uint32_t meter_capture(uint32_t order, uint32_t taps, uint32_t capacity, uint8_t *days, size_t days_len,
+                       uint16_t *slots, size_t slots_len, uint8_t *periods, size_t periods_len,
+                       int32_t *store, size_t store_len, int64_t *sums, size_t sums_len,
+                       uint32_t day, uint32_t m, const int32_t *y, size_t y_len, uint32_t *state, size_t *value);
 
 /* A standing day withdrawn: 15, 10, 13. */
 uint32_t meter_withdraw(uint32_t order, uint32_t taps, uint32_t capacity, uint8_t *days, size_t days_len,
-                        uint16_t *slots, size_t slots_len, int32_t *store, size_t store_len, int64_t *sums, size_t sums_len,
+                        uint16_t *slots, size_t slots_len, uint8_t *periods, size_t periods_len,
+                        int32_t *store, size_t store_len, int64_t *sums, size_t sums_len,
                         uint32_t day);
 
 /* The days in each of the five states: 15. */
 uint32_t meter_counts(uint32_t order, uint32_t taps, uint32_t capacity, const uint8_t *days, size_t days_len,
-                      const uint16_t *slots, size_t slots_len, const int32_t *store, size_t store_len,
+                      const uint16_t *slots, size_t slots_len, const uint8_t *periods, size_t periods_len,
+                      const int32_t *store, size_t store_len,
                       const int64_t *sums, size_t sums_len,
                       uint32_t *unseen, uint32_t *standing, uint32_t *overloaded, uint32_t *dead, uint32_t *withdrawn);
 
-/* r worked from the sums, and the mean over the standing days, P places each: 15, 6, 14. The room as for one recording. */
+/* r worked from the sums, and the mean over the periods standing, P places each: 15, 6, 14. The room as for one recording. */
 uint32_t meter_response(uint32_t order, uint32_t taps, uint32_t capacity, const uint8_t *days, size_t days_len,
-                        const uint16_t *slots, size_t slots_len, const int32_t *store, size_t store_len,
+                        const uint16_t *slots, size_t slots_len, const uint8_t *periods, size_t periods_len,
+                        const int32_t *store, size_t store_len,
                         const int64_t *sums, size_t sums_len, int64_t *r, size_t r_len, int32_t *mean, size_t mean_len,
                         int64_t *room, size_t room_len, uint16_t *tags, size_t tags_len);
 
-/* The highest r, the lowest r and r at the peak, each over (P+1) times the days standing: 15, 6. Where no day stands, `stands` becomes 0 and the
+/* The highest r, the lowest r and r at the peak, each over (P+1) times the periods standing: 15, 6. Where no day stands, `stands` becomes 0 and the
  * levels and the room stay as they were; where one does, `stands` becomes 1. */
 uint32_t meter_summary(uint32_t order, uint32_t taps, uint32_t capacity, const uint8_t *days, size_t days_len,
-                       const uint16_t *slots, size_t slots_len, const int32_t *store, size_t store_len,
+                       const uint16_t *slots, size_t slots_len, const uint8_t *periods, size_t periods_len,
+                       const int32_t *store, size_t store_len,
                        const int64_t *sums, size_t sums_len, int64_t *room, size_t room_len, uint16_t *tags, size_t tags_len,
                        uint32_t *stands, double *highest, double *lowest, double *peak);
 

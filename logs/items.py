@@ -1,12 +1,12 @@
-"""The items of a log as bytes (document 01, "The log program", which calls them records).
+"""The items of a log as bytes (document 01, "The log program", which calls them records; a capture is of request 1 of document 02).
 
 One byte of kind, then a body whose length the kind fixes; numbers little-endian.
 """
 
-START, OPEN, SAMPLE, ENTER, WITHDRAW, ASK = range(1, 7)
+START, OPEN, SAMPLE, ENTER, WITHDRAW, ASK, CAPTURE = range(1, 8)
 
 # How many bytes each number of a kind's body has. A sample is signed, the others are not.
-BODIES = {START: (1, 2, 1), OPEN: (2,), SAMPLE: (3,), ENTER: (), WITHDRAW: (2,), ASK: ()}
+BODIES = {START: (1, 2, 1), OPEN: (2,), SAMPLE: (3,), ENTER: (), WITHDRAW: (2,), ASK: (), CAPTURE: (2, 1)}
 
 
 def encode(kind, *numbers):

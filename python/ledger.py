@@ -6,15 +6,15 @@ It calls nothing of the core. `meter.Campaign` keeps a ledger of the calls made 
 from typing import NamedTuple, Optional
 
 STATES = ("unseen", "standing", "overloaded", "dead", "withdrawn")
-NOT_MAXIMAL = 4
+NOT_MAXIMAL, BEYOND_THE_PROGRAM, PERIODS_OUT_OF_RANGE = 4, 17, 18
 
-# Document 01, "Refusal numbers".
+# Document 01, "Refusal numbers", and those that the requests of document 02 add.
 CAUSES = {
     1: "order below 2 or above 16",
     2: "taps not below 2^N",
     3: "tap 0 clear",
     NOT_MAXIMAL: "register not maximal",
-    5: "recording or response not exactly P long",
+    5: "recording or response not exactly P long, capture not exactly (m+1)*P",
     6: "output or working room too short",
     7: "a value outside the sample range",
     8: "a predicted sample outside the sample range",
@@ -26,7 +26,8 @@ CAUSES = {
     14: "nothing standing",
     15: "record does not hold together",
     16: "player's window zero or not below 2^N",
-    17: "the program only: order above 9 or slots above 8",
+    BEYOND_THE_PROGRAM: "the program only: order above 9, slots above 8, or 5 to 16 periods",
+    PERIODS_OUT_OF_RANGE: "periods not 1 to 16",
 }
 
 
@@ -48,9 +49,14 @@ def how_short(period, length):
     return f"it returns after {period} {'step' if period == 1 else 'steps'} of {length}"
 
 
-def details(length, given, capacity=None):
-    """The numbers at hand of a recording given where P samples are wanted, by the refusal whose words leave them unsaid."""
-    return {5: f"P is {length}, {given} given", 12: f"C is {capacity}"}
+def details(length, given, capacity=None, periods=None):
+    """The numbers at hand of a recording given where P samples are wanted, or of a capture of so many periods where (m+1)*P are, by the refusal
+    whose words leave them unsaid."""
+    said = {5: f"P is {length}, {given} given", 12: f"C is {capacity}"}
+    if periods is None:
+        return said
+    asked = f"m is {periods}"
+    return said | {5: f"(m+1)*P is {(periods + 1) * length}, {given} given", BEYOND_THE_PROGRAM: asked, PERIODS_OUT_OF_RANGE: asked}
 
 
 class Note(NamedTuple):

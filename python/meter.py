@@ -6,7 +6,8 @@
 The shared object is linked from that archive at the first import, by `cc`; METER_LIBRARY names another. Samples are whole numbers
 from -8388608 to 8388607; any sequence of them will do. A refused call raises `Refused`, with document 01's number, and changes nothing; taps that
 are not maximal are refused with the number of steps after which their register returns. `explain` has every answer in words.
-A `Campaign` notes its refused calls in a ledger, and `not_in_mean()` says which nights are missing and why.
+A `Campaign` notes its refused calls in a ledger, and `not_in_mean()` says which nights are missing and why. A night is one period, or with `periods=m` a
+capture: a run-in of one period, which is dropped, and m that are summed.
 """
 
 import contextlib
@@ -37,14 +38,15 @@ class Refused(Exception):
 
 
 class Verdict(NamedTuple):
-    """What became of a night: its state, and the slot of one that stands or the first place at a rail of one that is overloaded."""
+    """What became of a night: its state, and the slot of one that stands or the first place at a rail of one that is overloaded, counted behind the
+    run-in."""
 
     state: str
     value: int
 
 
 class Levels(NamedTuple):
-    """The highest r, the lowest r and r at the peak, each over (P+1) times the nights standing."""
+    """The highest r, the lowest r and r at the peak, each over (P+1) times the periods standing."""
 
     highest: float
     lowest: float
@@ -84,7 +86,7 @@ def _types(*kinds):
     return [t for k in kinds for t in ((_P(k[0]), _size) if isinstance(k, list) else (k,))]
 
 
-_RECORD = (_u32, _u32, _u32, [ctypes.c_uint8], [ctypes.c_uint16], [_i32], [ctypes.c_int64])
+_RECORD = (_u32, _u32, _u32, [ctypes.c_uint8], [ctypes.c_uint16], [ctypes.c_uint8], [_i32], [ctypes.c_int64])
 _ROOM = ([ctypes.c_int64], [ctypes.c_uint16])
 _PERIOD = _P(_u32)
 for _name, _kinds in {
@@ -98,6 +100,7 @@ for _name, _kinds in {
     "predict": (_u32, _u32, [_i32], [_i32], _PERIOD),
     "start": (*_RECORD, _PERIOD),
     "enter": (*_RECORD, _u32, [_i32], _P(_u32), _P(_size)),
+    "capture": (*_RECORD, _u32, _u32, [_i32], _P(_u32), _P(_size)),
     "withdraw": (*_RECORD, _u32),
     "counts": (*_RECORD, *[_P(_u32)] * 5),
     "response": (*_RECORD, [ctypes.c_int64], [_i32], *_ROOM),
@@ -261,7 +264,7 @@ class Campaign:
     def __init__(self, order, taps=None, capacity=SLOTS):
         self._numbers = (*_register(order, taps), _number(capacity, "capacity"))
         p, room = _length(self.order), max(1, min(self._numbers[2], SLOTS))
-        self._tables = (ctypes.c_uint8 * DAYS)(), (ctypes.c_uint16 * SLOTS)()
+        self._tables = (ctypes.c_uint8 * DAYS)(), (ctypes.c_uint16 * SLOTS)(), (ctypes.c_uint8 * SLOTS)()
         self._lent = (_i32 * (room * p))(), (ctypes.c_int64 * p)()
         self.ledger = Ledger()
         _call_maximal("start", *self._record())
@@ -285,13 +288,14 @@ class Campaign:
             self.ledger.failed(call, day, f"{type(fault).__name__}: {fault}")
             raise
 
-    def enter(self, day, y):
-        """The verdict on a day's recording, 1 to 366."""
+    def enter(self, day, y, periods=None):
+        """The verdict on a day's night, 1 to 366: a recording of P samples, or a capture of so many periods behind a run-in, (periods+1)*P samples."""
         day, state, value = _whole(day, "day"), _u32(), _size()
         with self._noting("enter", day):
             y = _samples(y, "y")
-            told = details(_length(self.order), len(y), self._numbers[2])
-            _call("enter", *self._record(), _number(day, "day"), y, state, value, told=told)
+            told = details(_length(self.order), len(y), self._numbers[2], None if periods is None else _whole(periods, "periods"))
+            named = (_number(day, "day"),) if periods is None else (_number(day, "day"), _number(periods, "periods"))
+            _call("enter" if periods is None else "capture", *self._record(), *named, y, state, value, told=told)
         verdict = Verdict(STATES[state.value], value.value)
         self.ledger.accepted("enter", day, verdict.state, verdict.value if verdict.state == "overloaded" else None)
         return verdict
@@ -315,6 +319,10 @@ class Campaign:
                 found.setdefault(STATES[state], []).append(i + 1)
         return found
 
+    def periods(self):
+        """How many periods the night of each standing day has: {1: 1, 9: 4, ..}."""
+        return {day: m for day, m in sorted(zip(self._tables[1], self._tables[2])) if day != 0}
+
     def counts(self):
         """How many days are in each of the five states."""
         numbers = [_u32() for _ in STATES]
@@ -322,7 +330,7 @@ class Campaign:
         return dict(zip(STATES, (n.value for n in numbers)))
 
     def response(self):
-        """r worked from the sums of the standing days, and the mean over them."""
+        """r worked from the sums of the standing days, and the mean over their periods."""
         p = _length(self.order)
         r, mean = (ctypes.c_int64 * p)(), (_i32 * p)()
         _call("response", *self._record(), r, mean, *_room(self.order))
@@ -336,10 +344,10 @@ class Campaign:
 
 
 def trend(nights, order, taps=None, capacity=SLOTS):
-    """From a list of nights, (day, samples) each, to the mean response of those that stand, None where none does, and the days not in it, as
-    `not_in_mean()` gives them once all are entered."""
+    """From a list of nights, (day, samples) or of a capture (day, samples, periods), to the mean response of those that stand, None where none does, and
+    the days not in it, as `not_in_mean()` gives them once all are entered."""
     campaign = Campaign(order, taps, capacity)
-    for day, y in nights:
+    for night in nights:
         with contextlib.suppress(Refused):
-            campaign.enter(day, y)
+            campaign.enter(*night)
     return campaign.response()[1] if campaign.summary() else None, campaign.not_in_mean()

@@ -12,14 +12,15 @@ import pathlib
 import re
 import sys
 
-from ledger import NOT_MAXIMAL, STATES, Ledger, details, how_short, refusal
+from ledger import BEYOND_THE_PROGRAM, NOT_MAXIMAL, PERIODS_OUT_OF_RANGE, STATES, Ledger, details, how_short, refusal
 
 sys.path.append(str(pathlib.Path(__file__).resolve().parent.parent / "logs"))
-from items import ASK, ENTER, OPEN, SAMPLE, START, WITHDRAW, decode
+from items import ASK, CAPTURE, ENTER, OPEN, SAMPLE, START, WITHDRAW, decode
 
 RAILS = (-8388608, 8388607)
 VERDICTS = {"kept": "standing", "overload": "overloaded", "dead": "dead"}
-DAY_STANDING, NOTHING_STANDING = 11, 14
+DAY_OUT_OF_RANGE, DAY_STANDING, NOTHING_STANDING = 10, 11, 14
+DAYS, MOST_PERIODS, MOST_KEPT = 366, 16, 4
 
 
 class Fault(Exception):
@@ -33,9 +34,9 @@ class Reader:
         self.log, self.at = log, 0
         self.lines, self.taken = lines, 0
         self.ledger, self.responses, self.counted = Ledger(), 0, 0
-        self.length = self.capacity = self.day = self.samples = None
+        self.length = self.capacity = self.day = self.periods = self.samples = None
         self.stopped = ""
-        self.takes = {START: self.start, OPEN: self.open, SAMPLE: self.sample, ENTER: self.enter, WITHDRAW: self.withdraw, ASK: self.ask}
+        self.takes = {START: self.start, OPEN: self.open, CAPTURE: self.open, SAMPLE: self.sample, ENTER: self.enter, WITHDRAW: self.withdraw, ASK: self.ask}
 
     def line(self, begins, numbers, ends=""):
         """The numbers of the next line, which has to begin with these words, and its last word where it may end with one."""
@@ -59,6 +60,15 @@ class Reader:
     def hold_standing(self, holds, day):
         self.hold(holds, f"day {day} {'stands' if self.stands(day) else 'does not stand'} there")
 
+    def hold_periods(self, answer, day):
+        """A night whose samples the program does not keep has one answer; any other is never refused for its periods."""
+        m, never = self.periods, (PERIODS_OUT_OF_RANGE, BEYOND_THE_PROGRAM)
+        if m is None or 1 <= m <= MOST_KEPT:
+            self.hold(answer not in never, f"{'one period' if m is None else f'm = {m}'} is within the program's reach")
+            return
+        due = DAY_OUT_OF_RANGE if not 1 <= day <= DAYS else BEYOND_THE_PROGRAM if 1 <= m <= MOST_PERIODS else PERIODS_OUT_OF_RANGE
+        self.hold(answer == due, f"m = {m} is answered with {due} there")
+
     # ---- the items
 
     def start(self, order, taps, capacity):
@@ -70,8 +80,9 @@ class Reader:
             detail = how_short(int(told), self.length) if told else None
             self.stopped = f"the start was refused {refusal(answer, detail)}; no night was read"
 
-    def open(self, day):
-        self.day, self.samples = day, []
+    def open(self, day, periods=None):
+        """Opens a day, as a capture where periods are given."""
+        self.day, self.periods, self.samples = day, periods, []
 
     def sample(self, value):
         self.samples.append(value)
@@ -80,12 +91,14 @@ class Reader:
         day, self.day = self.day, None
         answer, verdict = self.line(f"enter {day}", 1, " (kept|overload|dead|-)")
         self.hold((answer == 0) == (verdict in VERDICTS), "the answer and the verdict do not go together")
+        self.hold_periods(answer, day)
         self.hold_standing(answer != (0 if self.stands(day) else DAY_STANDING), day)
         if answer != 0:
-            detail = details(self.length, len(self.samples), self.capacity).get(answer)
+            detail = details(self.length, len(self.samples), self.capacity, self.periods).get(answer)
             self.ledger.refused("enter", day, refusal(answer, detail))
             return
-        place = next((k for k, value in enumerate(self.samples) if value in RAILS), None)
+        judged = self.samples if self.periods is None else self.samples[self.length :]
+        place = next((k for k, value in enumerate(judged) if value in RAILS), None)
         self.hold((place is None) != (verdict == "overload"), f"the first sample at a rail: {'none' if place is None else place}")
         self.ledger.accepted("enter", day, VERDICTS[verdict], place)
 
@@ -114,8 +127,9 @@ class Reader:
         if self.length is None:
             return (START,)
         if self.day is None:
-            return (OPEN, WITHDRAW, ASK)
-        return (ENTER,) if len(self.samples) == self.length else (SAMPLE, ENTER)
+            return (OPEN, CAPTURE, WITHDRAW, ASK)
+        limit = self.length if self.periods is None else (self.periods + 1) * self.length
+        return (ENTER,) if len(self.samples) == limit else (SAMPLE, ENTER)
 
     def bad(self):
         (offset,) = self.line("bad", 1)

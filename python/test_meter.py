@@ -1,5 +1,5 @@
-"""Tries every call of meter.py on document 01's numbers and on its order of checks, the room that it lends, the periods that it tells, the ledger of
-nights, and the example."""
+"""Tries every call of meter.py on document 01's numbers and on its order of checks, captures of several periods, the room that it lends, the periods of
+registers that it tells, the ledger of nights, and the example."""
 import ctypes
 import os
 import pathlib
@@ -22,6 +22,11 @@ NIGHT = [4 * v for v in Y]
 QUIET = [5, 4, 9, 5, 6, 11, 5]
 HIT = NIGHT[:3] + [-8388608] + NIGHT[4:]
 BEYOND = 2**31
+# A run-in at the rails and two periods, their sum, and the response of that, worked by hand.
+RUN_IN = [8388607] * 7
+SECOND = [-3, -13, -2, 12, 10, -11, 3]
+BOTH = [-7, -25, -6, 24, 22, -23, 7]
+R_OF_BOTH = [122, 0, -66, 4, 0, -2, 6]
 
 
 class Case(unittest.TestCase):
@@ -83,6 +88,90 @@ class Calls(Case):
                 night = [low, low, low + spread // 2, low + spread, low, low, low]
                 self.assertEqual(c.enter(1, night), ("dead", 0) if spread <= 7 else ("standing", 0))
             c.withdraw(1)
+
+
+class Captures(Case):
+    def test_two_periods_behind_a_run_in(self):
+        c = meter.Campaign(3, capacity=2)
+        self.assertEqual(c.enter(1, RUN_IN + NIGHT + SECOND, periods=2), ("standing", 0))
+        self.assertEqual((list(c._lent[0]), list(c._lent[1])), (BOTH + [0] * 7, BOTH))
+        self.assertEqual((c.periods(), list(c._tables[2])), ({1: 2}, [2] + [0] * 63))
+        self.assertEqual(c.response(), (R_OF_BOTH, [8, 0, -4, 0, 0, 0, 0]))
+        self.assertEqual(c.summary(), (122 / 16, -66 / 16, 122 / 16))
+        self.assertEqual(c.enter(2, NIGHT), ("standing", 1))
+        self.assertEqual(c.periods(), {1: 2, 2: 1})
+        # 24 divides now: 8 times 3 periods.
+        self.assertEqual(c.response(), ([186, 0, -98, 4, 0, -2, 6], [8, 0, -4, 0, 0, 0, 0]))
+        self.assertEqual(c.summary(), (186 / 24, -98 / 24, 186 / 24))
+        c.withdraw(1)
+        self.assertEqual((c.periods(), list(c._tables[2])), ({2: 1}, [0, 1] + [0] * 62))
+        self.assertEqual(c.response(), ([4 * v for v in R], [8, 0, -4, 0, 0, 0, 0]))
+
+    def test_how_many_periods(self):
+        c = meter.Campaign(3, capacity=1)
+        for m in (1, 2, 4, 5, 16):
+            self.assertEqual(c.enter(1, RUN_IN + NIGHT * m, periods=m), ("standing", 0))
+            self.assertEqual((c.periods(), list(c._lent[0])), ({1: m}, [m * v for v in NIGHT]))
+            self.assertEqual(c.response(), ([4 * m * v for v in R], [8, 0, -4, 0, 0, 0, 0]))
+            c.withdraw(1)
+        for m in (0, 17, 255, 256 + 1, 2**32 - 1, 2**32, 2**32 + 1, -1):
+            self.assertEqual(self.refused(18, c.enter, 1, NIGHT * 2, m), f"18: periods not 1 to 16 (m is {m})")
+            self.refused(10, c.enter, 0, NIGHT * 2, m)
+
+    def test_how_many_samples(self):
+        c = meter.Campaign(3, capacity=1)
+        for m in (1, 2, 16):
+            for given in (7 * m, 7 * m + 6, 7 * m + 8):
+                said = f"5: recording or response not exactly P long, capture not exactly (m+1)*P ((m+1)*P is {7 * m + 7}, {given} given)"
+                self.assertEqual(self.refused(5, c.enter, 1, ([9, -9] * 64)[:given], m), said)
+        self.refused(5, c.enter, 1, NIGHT * 2)
+
+    def test_verdicts_are_of_what_follows_the_run_in(self):
+        c = meter.Campaign(3, capacity=1)
+        for m in (1, 2, 16):
+            quiet = [5, 4, 9, 5, 6, 11, 5] * m
+            self.assertEqual(c.enter(1, RUN_IN + quiet, m), ("dead", 0))
+            for place in (0, 7 * m - 1):
+                for rail in (-8388608, 8388607):
+                    heard = list(quiet)
+                    heard[place] = rail
+                    self.assertEqual(c.enter(1, RUN_IN + heard, periods=m), ("overloaded", place))
+            # One more apart, and in the last period alone.
+            self.assertEqual(c.enter(1, [0] * 7 + quiet[:-1] + [12], periods=m), ("standing", 0))
+            c.withdraw(1)
+            for place in (0, 6, 7, 7 * m + 6):
+                heard = [0] * 7 + quiet
+                heard[place] = 8388608
+                self.refused(7, c.enter, 1, heard, m)
+
+    def test_a_capture_in_the_ledger_and_a_trend(self):
+        hit = [0] * 7 + NIGHT + HIT
+        nights = [(1, RUN_IN + NIGHT + SECOND, 2), (2, hit, 2), (3, NIGHT * 2, 17), (4, NIGHT * 2, 2), (5, NIGHT)]
+        mean, missing = meter.trend(nights, 3, capacity=1)
+        self.assertEqual(mean, [8, 0, -4, 0, 0, 0, 0])
+        length = "recording or response not exactly P long, capture not exactly (m+1)*P"
+        self.assertEqual(
+            missing,
+            {
+                2: "overloaded at sample 10",
+                3: "refused 18: periods not 1 to 16 (m is 17)",
+                4: f"refused 5: {length} ((m+1)*P is 21, 14 given)",
+                5: "refused 12: verdict kept and C days stand (C is 1)",
+            },
+        )
+
+    def test_records_that_do_not_hold_together(self):
+        c = meter.Campaign(3, capacity=2)
+        c.enter(1, [0] * 7 + [8388606] * 6 + [0] + [8388606] * 7, 2)
+        for slot, m in [(0, 0), (0, 1), (0, 17), (1, 1), (2, 1), (63, 16)]:
+            stood, c._tables[2][slot] = c._tables[2][slot], m
+            self.refused(15, c.counts)
+            self.refused(15, c.enter, 2, NIGHT * 2, 1)
+            c._tables[2][slot] = stood
+            self.assertEqual(c.counts()["standing"], 1)
+        c.withdraw(1)
+        c._tables[2][0] = 2
+        self.refused(15, c.summary)
 
 
 class Room(Case):
@@ -168,14 +257,15 @@ class Refusals(Case):
             self.refused(7, c.enter, 1, NIGHT[:6] + [value])
 
     def test_a_wrong_length_says_P_and_the_length_given(self):
-        said = "5: recording or response not exactly P long (P is 7, 6 given)"
+        said = "5: recording or response not exactly P long, capture not exactly (m+1)*P (P is 7, 6 given)"
         self.assertEqual(self.refused(5, meter.recording, Y[:6], 3), said)
         self.assertEqual(self.refused(5, meter.predict, Y[:6], 3), said)
         self.assertEqual(self.refused(5, meter.Campaign(3).enter, 1, NIGHT[:6]), said)
 
     def test_answers_in_words(self):
-        said = ["accepted", "verdict kept and C days stand", "the program only: order above 9 or slots above 8", "unknown"]
-        self.assertEqual([meter.explain(n) for n in (0, 12, 17, 18)], said)
+        program = "the program only: order above 9, slots above 8, or 5 to 16 periods"
+        said = ["accepted", "verdict kept and C days stand", program, "periods not 1 to 16", "unknown"]
+        self.assertEqual([meter.explain(n) for n in (0, 12, 17, 18, 19)], said)
 
     def test_a_refusal_keeps_its_number_when_pickled(self):
         with self.assertRaises(meter.Refused) as met:
@@ -198,6 +288,7 @@ class Refusals(Case):
             "a sample of y": lambda: c.enter(1, NIGHT[:6] + [1.5]),
             "a sample of h": lambda: meter.predict("abcdefg", 3),
             "day": lambda: c.withdraw("1"),
+            "periods": lambda: c.enter(1, NIGHT, "1"),
         }.items():
             with self.assertRaisesRegex(TypeError, f"^{name} must be ", msg=name):
                 call()
@@ -233,7 +324,7 @@ class Nights(Case):
                 (-1, "withdrawal refused 10: day not 1 to 366"),
                 (2, full + "; then withdrawal refused 13: day not standing"),
                 (3, "refused 7: a value outside the sample range"),
-                (4, "refused 5: recording or response not exactly P long (P is 7, 6 given)"),
+                (4, "refused 5: recording or response not exactly P long, capture not exactly (m+1)*P (P is 7, 6 given)"),
                 (5, "overloaded at sample 3; then withdrawal refused 13: day not standing"),
                 (6, "dead; then " + full),
                 (8, "TypeError: a sample of y must be a whole number, not float"),
@@ -247,14 +338,17 @@ class Nights(Case):
 
     def test_the_ledger_says_what_the_core_says(self):
         draw = random.Random(1)
-        recordings = [NIGHT, QUIET, HIT, NIGHT[:6], [BEYOND] * 7]
+        nights = [[NIGHT], [QUIET], [HIT], [NIGHT[:6]], [[BEYOND] * 7], [NIGHT * 3, 2], [QUIET * 3, 2], [NIGHT + HIT, 1], [HIT + NIGHT, 1], [NIGHT * 3, 17]]
         for _ in range(200):
             c, named = meter.Campaign(3, capacity=3), set()
             for _ in range(40):
                 day = draw.choice([0, 1, 2, 3, 4, 5, 6, 366, 367])
                 named.add(day)
                 try:
-                    c.withdraw(day) if draw.random() < 0.3 else c.enter(day, draw.choice(recordings))
+                    if draw.random() < 0.3:
+                        c.withdraw(day)
+                    else:
+                        c.enter(day, *draw.choice(nights))
                 except meter.Refused:
                     pass
                 stands = set(c.states().get("standing", []))
@@ -287,7 +381,7 @@ class Programs(Case):
             [
                 "not in the mean: day 3, dead",
                 "not in the mean: day 4, overloaded at sample 4",
-                "not in the mean: day 5, refused 5: recording or response not exactly P long (P is 7, 6 given)",
+                "not in the mean: day 5, refused 5: recording or response not exactly P long, capture not exactly (m+1)*P (P is 7, 6 given)",
                 "not in the mean: day 6, refused 12: verdict kept and C days stand (C is 2)",
                 "mean [16, 0, -8, 0, 0, 0, 0]",
                 "",

@@ -9,6 +9,7 @@ import unittest
 here = pathlib.Path(__file__).resolve().parent
 root = here.parent
 sys.path[:0] = [str(here), str(root / "logs")]
+import items
 import make
 import nights
 
@@ -18,6 +19,11 @@ EXAMPLES = sorted((root / "examples").glob("*.log"))
 
 def answered(log):
     return subprocess.run([SECOND, "answer"], input=log, capture_output=True, check=True).stdout
+
+
+def capture(day, m, samples, enter=True):
+    """A capture's items."""
+    return items.encode(items.CAPTURE, day, m) + b"".join(items.encode(items.SAMPLE, v) for v in samples) + items.encode(items.ENTER) * enter
 
 
 def table(log, lines):
@@ -55,9 +61,10 @@ class Tables(unittest.TestCase):
         self.assertEqual(
             ends,
             {
+                "capture": "standing 0, overloaded 1, dead 0, withdrawn 1; response lines that agree: 2",
                 "edges": "the log is bad at byte 861 of 865; what follows was not read",
                 "order-1": "the start was refused 1: order below 2 or above 16; no night was read",
-                "order-10": "the start was refused 17: the program only: order above 9 or slots above 8; no night was read",
+                "order-10": "the start was refused 17: the program only: order above 9, slots above 8, or 5 to 16 periods; no night was read",
                 "order-17": "the start was refused 1: order below 2 or above 16; no night was read",
                 "paper": "standing 0, overloaded 0, dead 1, withdrawn 1; response lines that agree: 2",
                 "short": "the start was refused 4: register not maximal: it returns after 5 steps of 15; no night was read",
@@ -101,6 +108,95 @@ class Tables(unittest.TestCase):
         self.assertTrue(stopped > 50 and whole > 50, msg=(stopped, whole))
 
 
+# A period that is kept, one that is dead, and a run-in at the rails.
+NIGHT, QUIET, RAILS = [-4, -12, -4, 12, 12, -12, 4], [5, 4, 9, 5, 6, 11, 5], [8388607, -8388608] * 3 + [8388607]
+START = make.log_from_text("start 3 3 2\n")
+
+
+class Captures(unittest.TestCase):
+    """The lines are written by hand, from document 02's words."""
+
+    def test_what_becomes_of_each(self):
+        hit = NIGHT[:6] + [-8388608]
+        log = START + b"".join(
+            [
+                capture(1, 2, RAILS + NIGHT + NIGHT),
+                capture(2, 1, RAILS + QUIET),
+                capture(3, 4, RAILS + NIGHT * 3 + hit),
+                capture(4, 2, NIGHT * 2),
+                capture(5, 0, NIGHT),
+                capture(6, 17, NIGHT * 18),
+                capture(7, 255, []),
+                capture(8, 5, NIGHT * 6),
+                capture(1, 16, [8388607]),
+                capture(367, 5, []),
+                capture(0, 0, []),
+                capture(1, 1, NIGHT * 2),
+                items.encode(items.ASK),
+            ]
+        )
+        entered = ["1 0 kept", "2 0 dead", "3 0 overload", "4 5 -", "5 18 -", "6 18 -", "7 18 -", "8 17 -", "1 17 -", "367 10 -", "0 10 -", "1 11 -"]
+        rows = ["0 128 8", "1 0 0", "2 -64 -4", "3 0 0", "4 0 0", "5 0 0", "6 0 0"]
+        lines = ["start 0", *(f"enter {line}" for line in entered), "response 0 1 1 1 0", *rows]
+        program = "the program only: order above 9, slots above 8, or 5 to 16 periods"
+        self.assertEqual(
+            table(log, "".join(line + "\n" for line in lines).encode()),
+            [
+                "not in the mean: 9",
+                "  day     0  refused 10: day not 1 to 366",
+                "  day     2  dead",
+                "  day     3  overloaded at sample 27",
+                "  day     4  refused 5: recording or response not exactly P long, capture not exactly (m+1)*P ((m+1)*P is 21, 14 given)",
+                "  day     5  refused 18: periods not 1 to 16 (m is 0)",
+                "  day     6  refused 18: periods not 1 to 16 (m is 17)",
+                "  day     7  refused 18: periods not 1 to 16 (m is 255)",
+                f"  day     8  refused 17: {program} (m is 5)",
+                "  day   367  refused 10: day not 1 to 366",
+                "in the mean: 1",
+                "  day     1  standing; then refused 11: day already standing",
+                "standing 1, overloaded 1, dead 1, withdrawn 0; response lines that agree: 1",
+            ],
+        )
+
+    def test_one_sample_too_many(self):
+        for m in (0, 1, 2, 4, 5, 16, 17, 255):
+            most = (m + 1) * 7
+            log = START + capture(9, m, ([9, -9] * 1000)[: most + 1])
+            bad = len(START) + 4 + 4 * most
+            ends = f"the log is bad at byte {bad} of {len(log)}; what follows was not read"
+            self.assertEqual(table(log, b"start 0\nbad %d\n" % bad)[-1], ends)
+            with self.assertRaisesRegex(nights.Fault, f": the log is bad at byte {bad}$"):
+                table(log, b"start 0\nbad %d\n" % (bad - 4))
+
+    def test_where_it_may_stand(self):
+        inside = START + capture(9, 1, [1], enter=False)
+        for log in (capture(1, 1, []), inside + capture(1, 1, []), inside, START + items.encode(items.CAPTURE, 1, 1)[:-1]):
+            at = 0 if log[0] == items.CAPTURE else len(inside) if log.startswith(inside) else len(START)
+            lines = (b"" if at == 0 else b"start 0\n") + b"bad %d\n" % at
+            self.assertIn(f"the log is bad at byte {at} of {len(log)}; what follows was not read", table(log, lines))
+
+    def test_answers_that_cannot_be(self):
+        for day, m, samples, line, why in [
+            (1, 0, NIGHT, "0 kept", "m = 0 is answered with 18 there"),
+            (1, 0, [], "5 -", "m = 0 is answered with 18 there"),
+            (1, 0, [], "17 -", "m = 0 is answered with 18 there"),
+            (0, 17, [], "18 -", "m = 17 is answered with 10 there"),
+            (1, 17, [], "17 -", "m = 17 is answered with 18 there"),
+            (1, 5, NIGHT * 6, "0 kept", "m = 5 is answered with 17 there"),
+            (367, 16, [], "17 -", "m = 16 is answered with 10 there"),
+            (1, 16, [], "18 -", "m = 16 is answered with 17 there"),
+            (1, 4, NIGHT * 5, "17 -", "m = 4 is within the program's reach"),
+            (1, 1, NIGHT * 2, "18 -", "m = 1 is within the program's reach"),
+            (1, 1, RAILS + NIGHT, "0 overload", "the first sample at a rail: none"),
+            (1, 2, NIGHT * 2 + RAILS, "0 kept", "the first sample at a rail: 7"),
+        ]:
+            with self.assertRaisesRegex(nights.Fault, f": {why}$", msg=(m, line)):
+                table(START + capture(day, m, samples), f"start 0\nenter {day} {line}\n".encode())
+        one = make.log_from_text("start 3 3 2\nday 1\nsamples 1\nenter\n")
+        with self.assertRaisesRegex(nights.Fault, ": one period is within the program's reach$"):
+            table(one, b"start 0\nenter 1 18 -\n")
+
+
 class OtherLines(unittest.TestCase):
     def refuses(self, log, lines):
         with self.assertRaises(nights.Fault, msg=lines):
@@ -126,7 +222,7 @@ class OtherLines(unittest.TestCase):
                     other = [b"%d" % (int(word) + (k == place)) if k else word for k, word in enumerate(words)]
                     self.refuses(log, b"".join(lines[:i] + [b" ".join(other) + b"\n"] + lines[i + 1 :]))
                     changed += 1
-        self.assertEqual(changed, 50)
+        self.assertEqual(changed, 60)
 
     def test_a_verdict_that_is_another(self):
         log, lines = (root / "examples/year.log").read_bytes(), (root / "examples/year.lines").read_bytes()

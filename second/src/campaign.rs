@@ -7,6 +7,8 @@ use crate::register::{check_taps, period};
 pub const DAYS: usize = 366;
 pub const MOST_SLOTS: usize = 64;
 pub const FREE: u16 = 0;
+/// What every slot without a night has in the table of periods.
+pub const NO_PERIODS: u8 = 0;
 
 #[derive(Clone, Copy, Debug, PartialEq, Eq)]
 pub enum DayState {
@@ -17,7 +19,8 @@ pub enum DayState {
     Withdrawn,
 }
 
-/// `days[d - 1]` is day d's state; `table[s]` is the day in slot s, or `FREE`.
+/// `days[d - 1]` is day d's state; `table[s]` is the day in slot s, or `FREE`; `periods[s]` is how many periods its night had, or
+/// `NO_PERIODS`.
 #[derive(Clone, Debug, PartialEq, Eq)]
 pub struct Campaign {
     pub order: u32,
@@ -25,6 +28,7 @@ pub struct Campaign {
     pub slots: u32,
     pub days: [DayState; DAYS],
     pub table: [u16; MOST_SLOTS],
+    pub periods: [u8; MOST_SLOTS],
 }
 
 /// The caller's store of C·P samples and P wide sums.
@@ -65,6 +69,7 @@ pub fn start(
         slots,
         days,
         table: [FREE; MOST_SLOTS],
+        periods: [NO_PERIODS; MOST_SLOTS],
     })
 }
 
@@ -86,6 +91,11 @@ impl Campaign {
     /// How many days are in this state.
     pub fn days_in(&self, state: DayState) -> usize {
         self.days.iter().filter(|&&s| s == state).count()
+    }
+
+    /// The total of the periods standing.
+    pub fn periods_standing(&self) -> i64 {
+        self.periods.iter().map(|&m| i64::from(m)).sum()
     }
 
     /// The lowest-numbered slot whose table place holds `content`.

@@ -8,7 +8,7 @@ pub struct Coverage {
 }
 
 /// Everything a log can meet, by family.
-const EXPECTED: [(&str, &str); 7] = [
+const EXPECTED: [(&str, &str); 13] = [
     (
         "start",
         "0 order 2, 0 order 3, 0 order 4, 0 order 5, 0 order 6, 0 order 7, 0 order 8, \
@@ -38,20 +38,62 @@ const EXPECTED: [(&str, &str); 7] = [
          8 by the last sample, 8 around the first sample",
     ),
     (
+        "periods",
+        "m 0 10, m 0 18, m 0 18 whole, m 1 10, m 1 5, m 1 11, m 1 12, m 1 kept, m 1 overload, m 1 dead, \
+         m 2 10, m 2 5, m 2 11, m 2 12, m 2 kept, m 2 overload, m 2 dead, \
+         m 3 10, m 3 5, m 3 11, m 3 12, m 3 kept, m 3 overload, m 3 dead, \
+         m 4 10, m 4 5, m 4 11, m 4 12, m 4 kept, m 4 overload, m 4 dead, \
+         m 5 10, m 5 17, m 5 17 whole, m 6 to 15 10, m 6 to 15 17, \
+         m 6 to 15 17 whole, m 16 10, m 16 17, m 16 17 whole, \
+         m 17 10, m 17 18, m 17 18 whole, m 18 to 254 10, m 18 to 254 18, \
+         m 18 to 254 18 whole, m 255 10, m 255 18, m 255 18 whole",
+    ),
+    (
+        "capture",
+        "kept on unseen, kept on overloaded, kept on dead, kept on withdrawn, \
+         overload on unseen, overload on overloaded, overload on dead, overload on withdrawn, \
+         overload when full, dead on unseen, dead on overloaded, dead on dead, \
+         dead on withdrawn, dead when full, 5 with none, 5 with the run-in alone, 5 with m periods, \
+         5 with one too few, 5 and standing, 10 and whole, 10 and short, 10 when full, \
+         11 and kept, 11 and at a rail, 11 and dead, 12 at 8, 12 above 8, \
+         17 and whole, 17 and short, 17 and standing, 17 when full, \
+         18 and whole, 18 and short, 18 and standing, 18 when full",
+    ),
+    (
+        "run-in",
+        "kept behind a rail, kept behind a spread, kept behind a still one, \
+         overload behind a rail, overload behind a spread, overload behind a still one, \
+         dead behind a rail, dead behind a spread, dead behind a still one",
+    ),
+    (
+        "place",
+        "first, last, in a later period, before another rail",
+    ),
+    (
+        "together",
+        "dead at 7, dead though summed apart, kept at 8, kept though summed still, kept though summed to zeros, \
+         kept though each is still, kept by the first period, kept by the last period, \
+         kept at the lower bound, kept at the upper bound",
+    ),
+    (
         "withdraw",
-        "0, 10, 13 unseen, 13 overloaded, 13 dead, 13 withdrawn",
+        "0 of one period, 0 of several periods, 10, 13 unseen, 13 overloaded, 13 dead, 13 withdrawn",
     ),
     (
         "response",
         "0 of 1, 0 of 2, 0 of 3, 0 of 4, 0 of 5, 0 of 6, 0 of 7, 0 of 8, half up, half down, 14",
     ),
     (
+        "total",
+        "as many as days, a power of two, no power of two, the most, half up, half down",
+    ),
+    (
         "bad",
         "no input, unknown first, unknown in a day, unknown outside, kind 2 first, \
-         kind 3 first, kind 4 first, kind 5 first, kind 6 first, kind 1 in a day, \
-         kind 2 in a day, kind 5 in a day, kind 6 in a day, kind 1 outside, kind 3 outside, \
-         kind 4 outside, cut kind 1, cut kind 2, cut kind 3, cut kind 5, beyond P, \
-         end in open day",
+         kind 3 first, kind 4 first, kind 5 first, kind 6 first, kind 7 first, kind 1 in a day, \
+         kind 2 in a day, kind 5 in a day, kind 6 in a day, kind 7 in a day, kind 1 outside, kind 3 outside, \
+         kind 4 outside, cut kind 1, cut kind 2, cut kind 3, cut kind 5, cut kind 7, beyond P, beyond m 0, \
+         beyond m 1 to 4, beyond m 5 to 16, beyond m 17 to 254, beyond m 255, end in open day, end in open capture",
     ),
 ];
 

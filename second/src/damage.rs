@@ -1,28 +1,31 @@
 //! Damage to a whole log, between its records or inside them.
 
 use crate::make::Pieces;
-use crate::record::{encode, Record, ASK, ENTER, OPEN, SAMPLE, START, WITHDRAW};
+use crate::night::capture_length;
+use crate::record::{encode, Record, ASK, CAPTURE, ENTER, OPEN, SAMPLE, START, WITHDRAW};
+use crate::register::period;
 use crate::rng::Rng;
 
 /// The log with one sort of damage; a flipped byte may leave it whole.
 pub fn damaged(rng: &mut Rng, mut pieces: Pieces) -> Pieces {
-    match rng.below(12) {
+    match rng.below(20) {
         0 => return vec![cut_anywhere(rng, pieces.concat())],
         1 => return vec![flipped(rng, pieces.concat())],
-        2 => cut_body(rng, &mut pieces),
-        3 => insert(rng, &mut pieces, unknown),
-        4 | 10 => insert(rng, &mut pieces, any_record),
-        5 => sample_beyond_p(rng, &mut pieces),
-        6 => end_in_open_day(rng, &mut pieces),
-        7 => drop(pieces.remove(rng.below(pieces.len()))),
-        8 => {
-            pieces[0] = if rng.once_in(3) {
+        2 | 3 => cut_body(rng, &mut pieces),
+        4 => insert(rng, &mut pieces, unknown),
+        5..=8 => insert(rng, &mut pieces, any_record),
+        9 => sample_beyond_p(rng, &mut pieces),
+        10..=12 => sample_beyond_a_capture(rng, &mut pieces),
+        13 => end_in_open_day(rng, &mut pieces),
+        14 => drop(pieces.remove(rng.below(pieces.len()))),
+        15..=17 => {
+            pieces[0] = if rng.once_in(4) {
                 unknown(rng)
             } else {
                 any_record(rng)
             }
         }
-        9 => two_exchanged(rng, &mut pieces),
+        18 => two_exchanged(rng, &mut pieces),
         _ => pieces.push((0..rng.below(9)).map(|_| rng.byte()).collect()),
     }
     pieces
@@ -43,7 +46,7 @@ fn flipped(rng: &mut Rng, mut log: Vec<u8>) -> Vec<u8> {
 
 /// Ends the log inside the body of a record, its kind byte still there.
 fn cut_body(rng: &mut Rng, pieces: &mut Pieces) {
-    let kind = rng.pick(&[START, OPEN, SAMPLE, WITHDRAW]);
+    let kind = rng.pick(&[START, OPEN, SAMPLE, WITHDRAW, CAPTURE]);
     let of_kind = places(pieces, |piece| piece[0] == kind);
     let place = if of_kind.is_empty() {
         0
@@ -59,10 +62,17 @@ fn places(pieces: &Pieces, wanted: impl Fn(&[u8]) -> bool) -> Vec<usize> {
     (0..pieces.len()).filter(|&i| wanted(&pieces[i])).collect()
 }
 
+/// The places between records that lie outside the open days.
+fn outside(pieces: &Pieces) -> Vec<usize> {
+    let opens_none = [OPEN, CAPTURE, WITHDRAW, ASK];
+    let mut outside = places(pieces, |piece| opens_none.contains(&piece[0]));
+    outside.push(pieces.len());
+    outside
+}
+
 /// Anywhere, or half the time at a place outside the open days.
 fn insert(rng: &mut Rng, pieces: &mut Pieces, piece: fn(&mut Rng) -> Vec<u8>) {
-    let mut outside = places(pieces, |piece| [OPEN, WITHDRAW, ASK].contains(&piece[0]));
-    outside.push(pieces.len());
+    let outside = outside(pieces);
     let anywhere = rng.below(pieces.len() + 1);
     let place = if rng.once_in(2) {
         anywhere
@@ -74,13 +84,13 @@ fn insert(rng: &mut Rng, pieces: &mut Pieces, piece: fn(&mut Rng) -> Vec<u8>) {
 }
 
 fn unknown(rng: &mut Rng) -> Vec<u8> {
-    let mut piece = vec![rng.pick(&[0, 7, 8, 49, 128, 255])];
+    let mut piece = vec![rng.pick(&[0, 8, 9, 49, 128, 255])];
     piece.extend((0..rng.below(4)).map(|_| rng.byte()));
     piece
 }
 
 fn any_record(rng: &mut Rng) -> Vec<u8> {
-    encode(match rng.below(6) {
+    encode(match rng.below(7) {
         0 => Record::Start {
             order: 3,
             taps: 3,
@@ -90,7 +100,11 @@ fn any_record(rng: &mut Rng) -> Vec<u8> {
         2 => Record::Sample(rng.between(-9, 9)),
         3 => Record::Enter,
         4 => Record::Withdraw(rng.between(1, 366) as u16),
-        _ => Record::Ask,
+        5 => Record::Ask,
+        _ => Record::Capture {
+            day: rng.between(1, 366) as u16,
+            m: rng.pick(&[0, 1, 4, 5, 255]),
+        },
     })
 }
 
@@ -112,8 +126,31 @@ fn sample_beyond_p(rng: &mut Rng, pieces: &mut Pieces) {
     }
 }
 
+/// Up to this P a capture of 255 periods is brought whole.
+const SHORT_P: usize = 15;
+
+/// A capture of as many samples as it may have and one to three more, at a place outside the open days.
+fn sample_beyond_a_capture(rng: &mut Rng, pieces: &mut Pieces) {
+    // The order stands behind the kind byte of the start.
+    let p = period(u32::from(pieces[0][1]));
+    let m = match rng.below(6) {
+        0 => 0,
+        1 => rng.between(1, 4) as u8,
+        2 => rng.pick(&[5, 9, 16]),
+        3 | 4 if p <= SHORT_P => 255,
+        _ => rng.pick(&[17, 18]),
+    };
+    let place = rng.pick(&outside(pieces));
+    let samples = capture_length(usize::from(m), p) + 1 + rng.below(3);
+    let day = rng.between(0, 367) as u16;
+    let mut overfull = vec![encode(Record::Capture { day, m })];
+    overfull.extend((0..samples).map(|_| encode(Record::Sample(rng.between(-9, 9)))));
+    overfull.push(encode(Record::Enter));
+    pieces.splice(place..place, overfull);
+}
+
 fn end_in_open_day(rng: &mut Rng, pieces: &mut Pieces) {
-    let in_a_day = places(pieces, |piece| piece[0] == OPEN || piece[0] == SAMPLE);
+    let in_a_day = places(pieces, |piece| [OPEN, CAPTURE, SAMPLE].contains(&piece[0]));
     if !in_a_day.is_empty() {
         pieces.truncate(1 + rng.pick(&in_a_day));
     }

@@ -1,6 +1,7 @@
-//! Entering a day's recording and withdrawing a standing day.
+//! Entering a day's night and withdrawing a standing day.
 
-use crate::campaign::{check_day, Campaign, DayState, Lent, FREE};
+use crate::campaign::{check_day, Campaign, DayState, Lent, FREE, NO_PERIODS};
+use crate::night::{summed, Night};
 use crate::refusal::Refusal;
 use crate::response::{in_sample_range, HIGHEST, LOWEST};
 
@@ -58,24 +59,27 @@ pub fn spread(samples: &[i32]) -> i64 {
     })
 }
 
+pub fn at_a_rail(sample: &i32) -> bool {
+    [LOWEST, HIGHEST].contains(sample)
+}
+
 /// Overloaded at its first rail, otherwise dead, otherwise nothing against it.
 pub fn fault(samples: &[i32]) -> Option<Verdict> {
-    let rail = |&v: &i32| v == LOWEST || v == HIGHEST;
-    if let Some(place) = samples.iter().position(rail) {
+    if let Some(place) = samples.iter().position(at_a_rail) {
         return Some(Verdict::Overloaded { place });
     }
     (spread(samples) <= DEAD_SPREAD).then_some(Verdict::Dead)
 }
 
 impl Campaign {
-    /// Refusals 15, 10, 5, 7, 11, then the verdict, then 12.
-    pub fn enter(&mut self, lent: &mut Lent, day: u16, recording: &[i32]) -> Entry {
-        let verdict = match self.judge(lent, day, recording) {
+    /// Refusals 15, 10, 18, 5, 7, 11, then the verdict, then 12.
+    pub fn enter(&mut self, lent: &mut Lent, day: u16, night: Night) -> Entry {
+        let verdict = match self.judge(lent, day, night) {
             Ok(verdict) => verdict,
             Err(refusal) => Verdict::Refused(refusal),
         };
         match verdict {
-            Verdict::Kept { slot } => self.keep(lent, day, slot, recording),
+            Verdict::Kept { slot } => self.keep(lent, day, slot, night.judged(self.p())),
             Verdict::Overloaded { .. } => self.set_state(day, DayState::Overloaded),
             Verdict::Dead => self.set_state(day, DayState::Dead),
             Verdict::Refused(_) => {}
@@ -83,32 +87,34 @@ impl Campaign {
         Entry { day, verdict }
     }
 
-    fn judge(&self, lent: &Lent, day: u16, recording: &[i32]) -> Result<Verdict, Refusal> {
+    fn judge(&self, lent: &Lent, day: u16, night: Night) -> Result<Verdict, Refusal> {
         self.check_holding(lent)?;
         check_day(day)?;
-        if recording.len() != self.p() {
-            return Err(Refusal::NotPLong);
-        }
-        if !recording.iter().all(|&v| in_sample_range(i64::from(v))) {
+        let m = night.check_periods()?;
+        night.check_length(self.p(), m)?;
+        if !night.samples.iter().all(|&v| in_sample_range(i64::from(v))) {
             return Err(Refusal::ValueOutsideRange);
         }
         if self.state(day) == DayState::Standing {
             return Err(Refusal::AlreadyStanding);
         }
-        if let Some(verdict) = fault(recording) {
+        if let Some(verdict) = fault(night.judged(self.p())) {
             return Ok(verdict);
         }
         let slot = self.slot_holding(FREE).ok_or(Refusal::AllSlotsUsed)?;
         Ok(Verdict::Kept { slot })
     }
 
-    fn keep(&mut self, lent: &mut Lent, day: u16, slot: usize, recording: &[i32]) {
+    /// The slot gets the sum of the whole periods judged, and the sums get it on top.
+    fn keep(&mut self, lent: &mut Lent, day: u16, slot: usize, judged: &[i32]) {
         let p = self.p();
-        lent.store[slot * p..(slot + 1) * p].copy_from_slice(recording);
-        for (sum, &sample) in lent.sums.iter_mut().zip(recording) {
+        let night = summed(judged, p);
+        lent.store[slot * p..(slot + 1) * p].copy_from_slice(&night);
+        for (sum, sample) in lent.sums.iter_mut().zip(night) {
             *sum += i64::from(sample);
         }
         self.table[slot] = day;
+        self.periods[slot] = (judged.len() / p) as u8;
         self.set_state(day, DayState::Standing);
     }
 
@@ -124,6 +130,7 @@ impl Campaign {
             *sample = 0;
         }
         self.table[slot] = FREE;
+        self.periods[slot] = NO_PERIODS;
         self.set_state(day, DayState::Withdrawn);
         Ok(())
     }

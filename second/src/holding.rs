@@ -1,6 +1,7 @@
 //! When a record holds together with the memory lent to it.
 
-use crate::campaign::{Campaign, DayState, Lent, DAYS, FREE, MOST_SLOTS};
+use crate::campaign::{Campaign, DayState, Lent, DAYS, FREE, MOST_SLOTS, NO_PERIODS};
+use crate::night::check_periods;
 use crate::register::{check_taps, period};
 use crate::response::{HIGHEST, LOWEST};
 
@@ -18,6 +19,7 @@ pub fn holds_together(campaign: &Campaign, lent: &Lent) -> bool {
         && lent.sums.len() >= p
         && campaign.table[slots..].iter().all(|&day| day == FREE)
         && slots_and_days_agree(campaign)
+        && slots_and_periods_agree(campaign)
         && slots_hold_what_they_should(campaign, lent)
         && sums_are_totals(campaign, lent)
 }
@@ -34,21 +36,36 @@ fn slots_and_days_agree(campaign: &Campaign) -> bool {
             .all(|day| slots_of(day) == 1)
 }
 
-/// Used slots hold samples strictly between the rails; free slots hold zeros.
+/// Each used slot's night had 1 to 16 periods; a slot without a night has none, past C as well.
+fn slots_and_periods_agree(campaign: &Campaign) -> bool {
+    let slots = campaign.table.iter().zip(&campaign.periods);
+    slots.into_iter().all(|(&day, &m)| match day {
+        FREE => m == NO_PERIODS,
+        _ => check_periods(u32::from(m)).is_ok(),
+    })
+}
+
+/// A used slot holds what m periods strictly between the rails can sum to; free slots hold zeros.
 fn slots_hold_what_they_should(campaign: &Campaign, lent: &Lent) -> bool {
     let slots = lent
         .store
         .chunks(campaign.p())
         .take(campaign.slots as usize);
-    campaign.table.iter().zip(slots).all(|(&day, samples)| {
-        samples.iter().all(|&v| {
-            if day == FREE {
-                v == 0
-            } else {
-                LOWEST < v && v < HIGHEST
-            }
-        })
+    // A free slot has no periods, so that both of its bounds are 0.
+    campaign.periods.iter().zip(slots).all(|(&m, sums)| {
+        let bounds = lowest_sum(m)..=highest_sum(m);
+        sums.iter().all(|v| bounds.contains(v))
     })
+}
+
+/// The lowest that m samples can sum to which stand strictly between the rails.
+pub fn lowest_sum(m: u8) -> i32 {
+    (LOWEST + 1) * i32::from(m)
+}
+
+/// The highest likewise.
+pub fn highest_sum(m: u8) -> i32 {
+    (HIGHEST - 1) * i32::from(m)
 }
 
 /// Each sum is the total of the used slots at its place.

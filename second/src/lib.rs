@@ -2,10 +2,15 @@
 //! proved code.
 
 pub mod campaign;
+pub mod captures;
 pub mod compare;
 pub mod coverage;
 pub mod damage;
 pub mod door;
+pub mod door_campaign;
+pub mod door_damage;
+pub mod door_held;
+pub mod door_nights;
 pub mod edge;
 pub mod entering;
 pub mod feeding;
@@ -13,8 +18,12 @@ pub mod holding;
 pub mod log;
 pub mod make;
 pub mod met;
+pub mod met_capture;
+pub mod night;
 pub mod numbers;
+pub mod open_day;
 pub mod order;
+pub mod order_campaign;
 pub mod player;
 pub mod quiet;
 pub mod reading;

@@ -1,5 +1,6 @@
 //! Reading a log: each record in turn, and every way in which one is bad.
 
+use crate::met;
 use crate::record::{body_length, decode, Record, SAMPLE};
 use crate::run::{After, Answer, Run};
 
@@ -21,8 +22,8 @@ pub fn answer(input: &[u8]) -> Answer {
     if input.is_empty() {
         return bad(run, "no input", 0);
     }
-    if run.in_open_day() {
-        return bad(run, "end in open day", input.len());
+    if let Some(opened) = run.opened() {
+        return bad(run, met::end(opened), input.len());
     }
     run.answer
 }
@@ -36,8 +37,8 @@ fn next_record(run: &Run, rest: &[u8]) -> Result<(Record, usize), String> {
     if !run.allows(kind) {
         return Err(format!("kind {kind} {}", run.place()));
     }
-    if kind == SAMPLE && run.open_day_is_full() {
-        return Err("beyond P".to_string());
+    if let (SAMPLE, Some(opened)) = (kind, run.full_day()) {
+        return Err(met::beyond(opened));
     }
     match rest.get(1..1 + length) {
         Some(body) => Ok((decode(kind, body), 1 + length)),

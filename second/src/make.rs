@@ -1,7 +1,9 @@
 //! Random logs: whole campaigns, refused starts, damaged ones and garbage.
 
 use crate::campaign::DAYS;
+use crate::captures::{capture, kept_capture, Capture};
 use crate::damage::damaged;
+use crate::open_day::PROGRAM_PERIODS;
 use crate::record::{encode, Record};
 use crate::recordings::{kept, recording};
 use crate::register::{check_taps, default_taps};
@@ -16,9 +18,9 @@ pub fn log(seed: u64, number: u64) -> Vec<u8> {
     let rng = &mut Rng::for_log(seed, number);
     match rng.below(40) {
         0..=9 => refused_start(rng),
-        10..=21 => campaign(rng, 9),
-        22 => whole_year(rng),
-        23..=37 => {
+        10..=14 => campaign(rng, 9),
+        15 => whole_year(rng),
+        16..=37 => {
             let pieces = campaign(rng, 5);
             damaged(rng, pieces)
         }
@@ -33,7 +35,7 @@ fn garbage(rng: &mut Rng) -> Vec<u8> {
     let length = rng.below(200);
     let byte = |rng: &mut Rng| {
         if small_kinds {
-            rng.below(8) as u8
+            rng.below(9) as u8
         } else {
             rng.byte()
         }
@@ -98,7 +100,16 @@ fn refused_start(rng: &mut Rng) -> Pieces {
 
 /// An open day, its samples and its entry.
 fn entry(day: u16, samples: &[i32]) -> Pieces {
-    let mut pieces = vec![encode(Record::Open(day))];
+    night(Record::Open(day), samples)
+}
+
+fn captured(day: u16, capture: &Capture) -> Pieces {
+    let m = capture.m;
+    night(Record::Capture { day, m }, &capture.samples)
+}
+
+fn night(opening: Record, samples: &[i32]) -> Pieces {
+    let mut pieces = vec![encode(opening)];
     pieces.extend(samples.iter().map(|&v| encode(Record::Sample(v))));
     pieces.push(encode(Record::Enter));
     pieces
@@ -127,9 +138,10 @@ fn campaign(rng: &mut Rng, highest_order: u32) -> Pieces {
     }
     for _ in 0..rng.below(most_calls) {
         let day = day(rng, &few);
-        match rng.below(10) {
-            0..=5 => pieces.extend(entry(day, &recording(rng, order, taps))),
-            6..=7 => pieces.push(encode(Record::Withdraw(day))),
+        match rng.below(12) {
+            0..=4 => pieces.extend(entry(day, &recording(rng, order, taps))),
+            5..=7 => pieces.extend(captured(day, &capture(rng, order, taps))),
+            8..=9 => pieces.push(encode(Record::Withdraw(day))),
             _ => pieces.push(encode(Record::Ask)),
         }
     }
@@ -137,11 +149,17 @@ fn campaign(rng: &mut Rng, highest_order: u32) -> Pieces {
     pieces
 }
 
-/// As many kept days as there are slots, so that the calls after it meet no free slot.
+/// As many kept days as there are slots, so that the calls after it meet no free slot. Each is one period, or at the shorter orders each is a
+/// capture of so many as the program takes, and then the total is asked for.
 fn full_slots(rng: &mut Rng, order: u32, taps: u32, days: &[u16]) -> Pieces {
-    days.iter()
-        .flat_map(|&day| entry(day, &kept(rng, order, taps)))
-        .collect()
+    if order > 5 || rng.once_in(2) {
+        let one = |&day| entry(day, &kept(rng, order, taps));
+        return days.iter().flat_map(one).collect();
+    }
+    let several = |&day| captured(day, &kept_capture(rng, order, taps, PROGRAM_PERIODS));
+    let mut pieces: Pieces = days.iter().flat_map(several).collect();
+    pieces.push(encode(Record::Ask));
+    pieces
 }
 
 /// Every day of the year entered at the smallest order, so that all counts grow large.
@@ -149,7 +167,11 @@ fn whole_year(rng: &mut Rng) -> Pieces {
     let slots = rng.between(1, 8) as u8;
     let mut pieces = vec![start(2, 3, slots)];
     for day in 1..=DAYS as u16 {
-        pieces.extend(entry(day, &recording(rng, 2, 3)));
+        if rng.once_in(3) {
+            pieces.extend(captured(day, &capture(rng, 2, 3)));
+        } else {
+            pieces.extend(entry(day, &recording(rng, 2, 3)));
+        }
         if rng.once_in(3) {
             pieces.push(encode(Record::Withdraw(day)));
         }

@@ -1,39 +1,33 @@
-//! Document 01's "Order of checks": for each two checks that stand side by side in a call's list, an input to which both apply,
+//! Document 01's "Order of checks", with 18 of request 1 of document 02: for each two checks that stand side by side in a call's list, an input to which both apply,
 //! so that the answer tells which comes first. `door/order.c` makes the same calls through the C door.
 
-use crate::campaign::{start, Campaign, Lent};
+use crate::campaign::start;
 use crate::door::with_period;
-use crate::entering::Verdict;
+use crate::order_campaign;
 use crate::player::Player;
-use crate::reading::Summary;
 use crate::refusal::{number, Refusal};
 use crate::register::{check_taps, sequence};
 use crate::response::{one_recording, predict, predict_in_room};
 use crate::room::Room;
 use std::io::{self, Write};
 
-/// Order 2, taps 3: P is 3. A campaign has one slot.
-const P: usize = 3;
-const ROOM: usize = P + 1;
-const TAGS: usize = P;
-/// Its spread is the smallest that is kept.
-const KEPT: [i32; P] = [8, 0, 0];
+/// Order 2, taps 3: P is 3.
+pub const P: usize = 3;
+pub const ROOM: usize = P + 1;
+pub const TAGS: usize = P;
 
 /// Prints a line for each case.
 pub fn print(out: &mut impl Write) -> io::Result<()> {
     let mut lines = registers();
     lines.extend(recordings());
-    lines.extend(enters());
-    lines.extend(withdraws());
-    lines.extend(asks(true, "15 before 6", "15 before 6"));
-    lines.extend(asks(false, "6 before 14", "6 before nothing stands"));
+    lines.extend(order_campaign::lines());
     for line in lines {
         writeln!(out, "{line}")?;
     }
     Ok(())
 }
 
-fn line(call: &str, checks: &str, answer: u8) -> String {
+pub fn line(call: &str, checks: &str, answer: u8) -> String {
     format!("{call}: {checks}: {answer}")
 }
 
@@ -183,95 +177,4 @@ fn recordings() -> Vec<String> {
     add("start", "9 before 6", started(2, 3, 65, 64 * P, P));
     add("start", "9 before 6", started(2, 3, 0, P, P - 1));
     lines
-}
-
-// ---- a campaign
-
-/// A start; day 1 stands where asked, which uses the only slot; a damaged record has a sum that is none.
-fn begun(standing: bool, damaged: bool) -> (Campaign, Lent) {
-    let mut lent = Lent {
-        store: vec![0; P],
-        sums: vec![0; P],
-    };
-    let mut campaign = start(2, 3, 1, &mut lent.store, &mut lent.sums).expect("it is accepted");
-    if standing {
-        campaign.enter(&mut lent, 1, &KEPT);
-    }
-    lent.sums[0] += i64::from(damaged);
-    (campaign, lent)
-}
-
-/// The answer, and the state and value that the verdict gives, 9 and 9 where it gives none.
-fn enter(checks: &str, standing: bool, damaged: bool, day: u16, y: &[i32]) -> String {
-    let (mut campaign, mut lent) = begun(standing, damaged);
-    let (answer, state, value) = match campaign.enter(&mut lent, day, y).verdict {
-        Verdict::Kept { slot } => (0, 1, slot),
-        Verdict::Overloaded { place } => (0, 2, place),
-        Verdict::Dead => (0, 3, 0),
-        Verdict::Refused(refusal) => (refusal.number(), 9, 9),
-    };
-    format!("enter: {checks}: {answer} {state} {value}")
-}
-
-/// A dead input is still or dithers by a spread of 7; one that does so at a rail is overloaded.
-fn enters() -> [String; 15] {
-    let (loud, beyond) = (8_388_607, 8_388_608);
-    let (still, dithers) = ([5; P], [5, -2, -2]);
-    let upper = [loud, 8_388_600, 8_388_600];
-    let lower = [-8_388_601, -8_388_608, -8_388_608];
-    [
-        enter("15 before 10", false, true, 0, &KEPT),
-        enter("10 before 5", false, false, 0, &KEPT[..P - 1]),
-        enter("5 before 7", false, false, 2, &[beyond, 0]),
-        enter("7 before 11", true, false, 1, &[beyond, 0, 0]),
-        enter("11 before the verdict", true, false, 1, &[loud, 0, 0]),
-        enter("11 before the verdict", true, false, 1, &still),
-        enter("11 before the verdict", true, false, 1, &dithers),
-        enter("11 before 12", true, false, 1, &KEPT),
-        enter("overloaded before dead", false, false, 2, &[loud; P]),
-        enter("overloaded before dead", false, false, 2, &upper),
-        enter("overloaded before dead", false, false, 2, &lower),
-        enter("the verdict before 12", true, false, 2, &[loud, 0, 0]),
-        enter("the verdict before 12", true, false, 2, &upper),
-        enter("the verdict before 12", true, false, 2, &still),
-        enter("the verdict before 12", true, false, 2, &dithers),
-    ]
-}
-
-fn withdraws() -> [String; 2] {
-    [("15 before 10", true), ("10 before 13", false)].map(|(checks, damaged)| {
-        let (mut campaign, mut lent) = begun(false, damaged);
-        line("withdraw", checks, number(&campaign.withdraw(&mut lent, 0)))
-    })
-}
-
-/// Each of the lent lengths is one too short in its turn; a summary has no outputs but the room.
-fn asks(damaged: bool, response_checks: &str, summary_checks: &str) -> Vec<String> {
-    let (campaign, lent) = begun(false, damaged);
-    let too_short = [
-        [P - 1, P, ROOM, TAGS],
-        [P, P - 1, ROOM, TAGS],
-        [P, P, ROOM - 1, TAGS],
-        [P, P, ROOM, TAGS - 1],
-    ];
-    let response = |[r, mean, wide, tags]: [usize; 4]| {
-        let room = &mut Room {
-            wide: &mut vec![0; wide],
-            tags: &mut vec![0; tags],
-        };
-        number(&campaign.response(&lent, &mut vec![0; r], &mut vec![0; mean], room))
-    };
-    let summary = |[_, _, wide, tags]: [usize; 4]| {
-        let room = &mut Room {
-            wide: &mut vec![0; wide],
-            tags: &mut vec![0; tags],
-        };
-        match campaign.summary(&lent, room) {
-            Summary::Refused(refusal) => refusal.number(),
-            _ => 0,
-        }
-    };
-    let responses = too_short.map(|lengths| line("response", response_checks, response(lengths)));
-    let summaries = [2, 3].map(|i| line("summary", summary_checks, summary(too_short[i])));
-    responses.into_iter().chain(summaries).collect()
 }

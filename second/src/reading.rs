@@ -41,9 +41,9 @@ impl Campaign {
         })
     }
 
-    /// (P+1)·n, n days standing.
+    /// (P+1) times the total of the periods standing.
     pub fn divisor(&self) -> i64 {
-        (self.p() as i64 + 1) * self.days_in(DayState::Standing) as i64
+        (self.p() as i64 + 1) * self.periods_standing()
     }
 
     /// Writes r and the means. Refusals 15, 6, 14.

@@ -2,12 +2,21 @@
 
 #[derive(Clone, Copy, Debug, PartialEq, Eq)]
 pub enum Record {
-    Start { order: u8, taps: u16, slots: u8 },
+    Start {
+        order: u8,
+        taps: u16,
+        slots: u8,
+    },
     Open(u16),
     Sample(i32),
     Enter,
     Withdraw(u16),
     Ask,
+    /// Opens a day with a capture of m periods behind a run-in.
+    Capture {
+        day: u16,
+        m: u8,
+    },
 }
 
 pub const START: u8 = 1;
@@ -16,13 +25,14 @@ pub const SAMPLE: u8 = 3;
 pub const ENTER: u8 = 4;
 pub const WITHDRAW: u8 = 5;
 pub const ASK: u8 = 6;
+pub const CAPTURE: u8 = 7;
 
 /// The length of a kind's body, or none for an unknown kind.
 pub fn body_length(kind: u8) -> Option<usize> {
     match kind {
         START => Some(4),
         OPEN | WITHDRAW => Some(2),
-        SAMPLE => Some(3),
+        SAMPLE | CAPTURE => Some(3),
         ENTER | ASK => Some(0),
         _ => None,
     }
@@ -43,6 +53,10 @@ pub fn decode(kind: u8, body: &[u8]) -> Record {
         ENTER => Record::Enter,
         WITHDRAW => Record::Withdraw(day()),
         ASK => Record::Ask,
+        CAPTURE => Record::Capture {
+            day: day(),
+            m: body[2],
+        },
         _ => panic!("kind {kind} has no record"),
     }
 }
@@ -61,6 +75,7 @@ pub fn encode(record: Record) -> Vec<u8> {
         Record::Enter => vec![ENTER],
         Record::Withdraw(day) => with_day(WITHDRAW, day),
         Record::Ask => vec![ASK],
+        Record::Capture { day, m } => [with_day(CAPTURE, day), vec![m]].concat(),
     }
 }
 

@@ -40,7 +40,7 @@ pub fn kept(rng: &mut Rng, order: u32, taps: u32) -> Vec<i32> {
     }
 }
 
-fn noise(rng: &mut Rng, order: u32, size: i32) -> Vec<i32> {
+pub fn noise(rng: &mut Rng, order: u32, size: i32) -> Vec<i32> {
     (0..period(order))
         .map(|_| rng.between(-size, size))
         .collect()

@@ -9,7 +9,7 @@ pub enum Refusal {
     NotMaximal {
         first_return: usize,
     },
-    NotPLong,
+    WrongLength,
     RoomTooShort,
     ValueOutsideRange,
     PredictedOutsideRange,
@@ -22,6 +22,7 @@ pub enum Refusal {
     DoesNotHoldTogether,
     Window,
     ProgramLimit,
+    PeriodsOutOfRange,
 }
 
 impl Refusal {
@@ -31,7 +32,7 @@ impl Refusal {
             Refusal::TapsNotBelow => 2,
             Refusal::Tap0Clear => 3,
             Refusal::NotMaximal { .. } => 4,
-            Refusal::NotPLong => 5,
+            Refusal::WrongLength => 5,
             Refusal::RoomTooShort => 6,
             Refusal::ValueOutsideRange => 7,
             Refusal::PredictedOutsideRange => 8,
@@ -44,6 +45,7 @@ impl Refusal {
             Refusal::DoesNotHoldTogether => 15,
             Refusal::Window => 16,
             Refusal::ProgramLimit => 17,
+            Refusal::PeriodsOutOfRange => 18,
         }
     }
 }

@@ -40,7 +40,7 @@ pub fn one_recording(
 ) -> Result<usize, Refusal> {
     let p = check_taps(order, taps)?;
     if recording.len() != p {
-        return Err(Refusal::NotPLong);
+        return Err(Refusal::WrongLength);
     }
     if r.len() < p {
         return Err(Refusal::RoomTooShort);
@@ -64,7 +64,7 @@ fn predicted(
 ) -> Result<Vec<i32>, Refusal> {
     let p = check_taps(order, taps)?;
     if h.len() != p {
-        return Err(Refusal::NotPLong);
+        return Err(Refusal::WrongLength);
     }
     if short(p) {
         return Err(Refusal::RoomTooShort);

@@ -2,8 +2,9 @@
 
 use crate::campaign::{check_start, start, Campaign, Lent};
 use crate::met;
+use crate::open_day::{OpenDay, Opened};
 use crate::reading::Counts;
-use crate::record::{Record, ASK, ENTER, OPEN, SAMPLE, START, WITHDRAW};
+use crate::record::{Record, ASK, CAPTURE, ENTER, OPEN, SAMPLE, START, WITHDRAW};
 use crate::refusal::{number, Refusal};
 use crate::room::Room;
 use std::fmt::Write;
@@ -24,11 +25,6 @@ impl Answer {
     }
 }
 
-struct OpenDay {
-    day: u16,
-    samples: Vec<i32>,
-}
-
 #[derive(Default)]
 pub struct Run {
     campaign: Option<(Campaign, Lent)>,
@@ -41,10 +37,14 @@ pub enum After {
     Stop,
 }
 
+/// The largest order and the most slots that the program takes.
+pub const PROGRAM_ORDER: u32 = 9;
+pub const PROGRAM_SLOTS: u32 = 8;
+
 /// Accepts a start within the program's limits: 17 stands in the place of 6.
 fn start_in_program(order: u32, taps: u32, slots: u32) -> Result<(Campaign, Lent), Refusal> {
     let p = check_start(order, taps, slots)?;
-    if order > 9 || slots > 8 {
+    if order > PROGRAM_ORDER || slots > PROGRAM_SLOTS {
         return Err(Refusal::ProgramLimit);
     }
     let mut lent = Lent {
@@ -64,8 +64,9 @@ fn start_words<T>(started: &Result<T, Refusal>) -> String {
 }
 
 impl Run {
-    pub fn in_open_day(&self) -> bool {
-        self.open.is_some()
+    /// What the open day was opened for.
+    pub fn opened(&self) -> Option<Opened> {
+        self.open.as_ref().map(|open| open.opened)
     }
 
     /// Where the next record stands, in words.
@@ -82,16 +83,15 @@ impl Run {
         match (&self.campaign, &self.open) {
             (None, _) => kind == START,
             (Some(_), Some(_)) => kind == SAMPLE || kind == ENTER,
-            (Some(_), None) => kind == OPEN || kind == WITHDRAW || kind == ASK,
+            (Some(_), None) => [OPEN, WITHDRAW, ASK, CAPTURE].contains(&kind),
         }
     }
 
-    /// P samples have come in the open day already.
-    pub fn open_day_is_full(&self) -> bool {
-        match (&self.campaign, &self.open) {
-            (Some((campaign, _)), Some(open)) => open.samples.len() == campaign.p(),
-            _ => false,
-        }
+    /// What the open day was opened for, where as many samples have come as it may have.
+    pub fn full_day(&self) -> Option<Opened> {
+        let (campaign, _) = self.campaign.as_ref()?;
+        let open = self.open.as_ref()?;
+        (open.count == open.opened.limit(campaign.p())).then_some(open.opened)
     }
 
     pub fn carry_out(&mut self, record: Record) -> After {
@@ -99,11 +99,9 @@ impl Run {
             Record::Start { order, taps, slots } => {
                 return self.start(u32::from(order), u32::from(taps), u32::from(slots));
             }
-            Record::Open(day) => {
-                self.open = Some(OpenDay {
-                    day,
-                    samples: Vec::new(),
-                })
+            Record::Open(day) => self.open = Some(OpenDay::new(day, Opened::OnePeriod)),
+            Record::Capture { day, m } => {
+                self.open = Some(OpenDay::new(day, Opened::Capture { m }))
             }
             Record::Sample(value) => self.sample(value),
             Record::Enter => self.enter(),
@@ -141,21 +139,18 @@ impl Run {
             .open
             .as_mut()
             .expect("a sample stands only in an open day");
-        open.samples.push(value);
+        open.sample(value);
     }
 
     fn enter(&mut self) {
-        let OpenDay { day, samples } = self.open.take().expect("4 stands only in an open day");
+        let open = self.open.take().expect("4 stands only in an open day");
         let (campaign, lent) = self.campaign();
         let before = campaign.clone();
-        let entry = campaign.enter(lent, day, &samples);
-        let verdict = entry.verdict;
+        let verdict = open.enter(campaign, lent);
         let (answer, word) = (verdict.number(), verdict.word());
         self.answer
-            .line(format_args!("enter {} {answer} {word}", entry.day));
-        self.answer
-            .met
-            .extend(met::enter(&before, &samples, day, verdict));
+            .line(format_args!("enter {} {answer} {word}", open.day));
+        self.answer.met.extend(met::enter(&before, &open, verdict));
     }
 
     fn withdraw(&mut self, day: u16) {
@@ -178,7 +173,6 @@ impl Run {
             tags: &mut vec![0; p],
         };
         let answer = number(&campaign.response(lent, &mut r, &mut means, &mut room));
-        let divisor = campaign.divisor();
         let counts = campaign.counts(lent).expect("a run never meets 15");
         let Counts {
             standing,
@@ -195,8 +189,8 @@ impl Run {
                 self.answer.line(format_args!("{k} {r} {mean}"));
             }
         }
-        self.answer
-            .met
-            .extend(met::response(answer, standing, &r, divisor));
+        let (campaign, _) = self.campaign();
+        let names = met::response(answer, campaign, &r);
+        self.answer.met.extend(names);
     }
 }

@@ -26,6 +26,13 @@ fn records(line: &str) -> Result<Vec<Record>, String> {
         ["start", ..] => Err("write `start ORDER TAPS SLOTS`".to_string()),
         ["day", day] => Ok(vec![Record::Open(value("day", day, 0, 65535)? as u16)]),
         ["day", ..] => Err("write `day N`, and the samples on lines of their own".to_string()),
+        ["capture", day, m] => Ok(vec![Record::Capture {
+            day: value("day", day, 0, 65535)? as u16,
+            m: value("m", m, 0, 255)? as u8,
+        }]),
+        ["capture", ..] => {
+            Err("write `capture DAY M`, and the samples on lines of their own".to_string())
+        }
         ["samples"] => Err("write `samples` and at least one value".to_string()),
         ["samples", ref values @ ..] => values
             .iter()
@@ -37,7 +44,7 @@ fn records(line: &str) -> Result<Vec<Record>, String> {
         ["ask"] => Ok(vec![Record::Ask]),
         ["enter" | "ask", ..] => Err(format!("nothing may follow `{}`", words[0])),
         [word, ..] => Err(format!(
-            "`{word}` is not one of start, day, samples, enter, withdraw, ask"
+            "`{word}` is not one of start, day, capture, samples, enter, withdraw, ask"
         )),
     }
 }

@@ -17,6 +17,8 @@ pub struct Plan {
     pub taps: u32,
     pub slots: u32,
     pub lag: usize,
+    /// A capture has at most so many periods.
+    pub most_periods: usize,
 }
 
 pub const PLANS: [Plan; 2] = [
@@ -25,12 +27,14 @@ pub const PLANS: [Plan; 2] = [
         taps: 3,
         slots: 5,
         lag: 6,
+        most_periods: 16,
     },
     Plan {
         order: 9,
         taps: 17,
         slots: 48,
         lag: 60,
+        most_periods: 4,
     },
 ];
 
@@ -38,8 +42,39 @@ pub fn day_of(visit: usize) -> u16 {
     (149 * visit % DAYS) as u16 + 1
 }
 
-/// The P samples of a quiet visit: b is the smallest, and the largest is s above it.
-fn quiet(visit: usize, p: usize) -> Vec<i32> {
+/// What a visit brings: one period, or a capture of m behind its run-in.
+#[derive(Clone, Copy, Debug, PartialEq, Eq)]
+pub enum Brought {
+    OnePeriod,
+    Capture { m: usize },
+}
+
+impl Brought {
+    pub fn at(visit: usize, most_periods: usize) -> Brought {
+        match visit % 5 {
+            2 | 4 => Brought::Capture {
+                m: visit / 5 % most_periods + 1,
+            },
+            _ => Brought::OnePeriod,
+        }
+    }
+
+    /// The lengths of the run-in and of what counts.
+    pub fn lengths(self, p: usize) -> (usize, usize) {
+        match self {
+            Brought::OnePeriod => (0, p),
+            Brought::Capture { m } => (p, m * p),
+        }
+    }
+
+    fn length(self, p: usize) -> usize {
+        let (run_in, counting) = self.lengths(p);
+        run_in + counting
+    }
+}
+
+/// The samples of a quiet visit that count: b is the smallest, and the largest is s above it.
+fn quiet(visit: usize, n: usize) -> Vec<i32> {
     let s = visit / 11 % 10;
     let b = match visit % 3 {
         0 => LOWEST + 1,
@@ -47,22 +82,30 @@ fn quiet(visit: usize, p: usize) -> Vec<i32> {
         _ => (visit % 200) as i32 - 100,
     };
     let sample = |j| b + (31 * visit * j % (s + 1)) as i32;
-    let mut samples: Vec<i32> = (0..p).map(sample).collect();
-    samples[visit % p] = b;
-    samples[(visit + 3) % p] = b + s as i32;
+    let mut samples: Vec<i32> = (0..n).map(sample).collect();
+    samples[visit % n] = b;
+    samples[(visit + 3) % n] = b + s as i32;
     samples
 }
 
-/// The P samples of a visit: kept as a rule, overloaded or quiet by the visit's number.
-pub fn recording(visit: usize, p: usize) -> Vec<i32> {
-    if visit % 11 == 7 {
-        return quiet(visit, p);
-    }
+/// The samples of a visit, its run-in with them: kept as a rule, overloaded or quiet by the visit's number.
+pub fn recording(visit: usize, p: usize, brought: Brought) -> Vec<i32> {
+    let (run_in, counting) = brought.lengths(p);
     let sample = |j| ((7_919 * visit + 104_729 * j + 31 * visit * j) % 16_777_213) as i32;
-    let mut samples: Vec<i32> = (0..p).map(|j| sample(j) - 8_388_606).collect();
-    if visit % 11 == 3 {
-        samples[visit % p] = if visit % 2 == 1 { HIGHEST } else { LOWEST };
-        samples[p - 1] = HIGHEST;
+    let whole = 0..run_in + counting;
+    let mut samples: Vec<i32> = whole.map(|j| sample(j) - 8_388_606).collect();
+    if run_in > 0 {
+        // A rail that is dropped with the run-in.
+        samples[visit % p] = HIGHEST;
+    }
+    let counted = &mut samples[run_in..];
+    match visit % 11 {
+        3 => {
+            counted[visit % counting] = if visit % 2 == 1 { HIGHEST } else { LOWEST };
+            counted[counting - 1] = HIGHEST;
+        }
+        7 => counted.copy_from_slice(&quiet(visit, counting)),
+        _ => {}
     }
     samples
 }
@@ -81,7 +124,7 @@ pub fn lines(plan: Plan) -> Vec<String> {
     let mut calls = begin(plan);
     ask(&mut calls);
     for i in 0..VISITS {
-        visit(&mut calls, plan.lag, i);
+        visit(&mut calls, plan, i);
         if i == REFUSED_AFTER {
             be_refused(&mut calls);
         }
@@ -98,24 +141,34 @@ pub fn begin(plan: Plan) -> Calls {
 }
 
 /// Visit i but for being refused.
-pub fn visit(calls: &mut Calls, lag: usize, i: usize) {
-    make_recording(calls, i);
-    let p = calls.campaign.p();
-    calls.enter(day_of(i), p);
+pub fn visit(calls: &mut Calls, plan: Plan, i: usize) {
+    let brought = Brought::at(i, plan.most_periods);
+    make_recording(calls, i, brought);
+    enter(calls, day_of(i), brought);
     if i % 13 == 5 {
-        calls.enter(day_of(i), p);
+        enter(calls, day_of(i), brought);
     }
-    if i >= lag {
-        calls.withdraw(day_of(i - lag));
+    if i >= plan.lag {
+        calls.withdraw(day_of(i - plan.lag));
     }
     if i % 61 == 60 {
         ask(calls);
     }
 }
 
-fn make_recording(calls: &mut Calls, visit: usize) {
-    let p = calls.campaign.p();
-    calls.memory.recording[..p].copy_from_slice(&recording(visit, p));
+/// What is longer of an earlier recording stays behind this one.
+fn make_recording(calls: &mut Calls, visit: usize, brought: Brought) {
+    let samples = recording(visit, calls.campaign.p(), brought);
+    calls.memory.recording[..samples.len()].copy_from_slice(&samples);
+}
+
+/// Enters the whole recording at hand, as what it is.
+fn enter(calls: &mut Calls, day: u16, brought: Brought) {
+    let length = brought.length(calls.campaign.p());
+    match brought {
+        Brought::OnePeriod => calls.enter(day, length),
+        Brought::Capture { m } => calls.capture(day, m as u32, length),
+    }
 }
 
 fn ask(calls: &mut Calls) {
@@ -128,6 +181,7 @@ fn ask(calls: &mut Calls) {
 /// Every refusal that the visits do not bring, with the recording of visit 365 at hand, and the two calls that just enough room is lent to.
 pub fn be_refused(calls: &mut Calls) {
     refused_entries(calls);
+    refused_captures(calls);
     calls.withdraw(0);
     calls.withdraw(367);
     short_rooms(calls);
@@ -151,6 +205,17 @@ fn refused_entries(calls: &mut Calls) {
     for outside in [HIGHEST + 1, LOWEST - 1] {
         calls.memory.recording[0] = outside;
         calls.enter(1, p);
+    }
+}
+
+/// The recording's sample 0 is outside the range.
+fn refused_captures(calls: &mut Calls) {
+    let p = calls.campaign.p();
+    calls.capture(0, 17, p);
+    calls.capture(1, 0, p);
+    calls.capture(1, 17, p);
+    for length in [2 * p - 1, 2 * p + 1, 2 * p] {
+        calls.capture(1, 1, length);
     }
 }
 
@@ -185,8 +250,8 @@ fn just_enough_room(calls: &mut Calls) {
 /// A record whose sums are not the totals does not hold together.
 fn spoiled_sum(calls: &mut Calls) {
     calls.memory.lent.sums[0] += 1;
-    make_recording(calls, REFUSED_AFTER);
-    calls.enter(1, calls.campaign.p());
+    make_recording(calls, REFUSED_AFTER, Brought::OnePeriod);
+    enter(calls, 1, Brought::OnePeriod);
     calls.withdraw(1);
     calls.counts();
     calls.response(Lengths::WHOLE);

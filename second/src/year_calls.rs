@@ -1,6 +1,8 @@
 //! The calls of the year on one campaign and its memory, each with the line that it prints.
 
 use crate::campaign::{self, Campaign, Lent};
+use crate::entering::Entry;
+use crate::night::Night;
 use crate::player::Player;
 use crate::reading::Summary;
 use crate::refusal::{number, Refusal};
@@ -40,6 +42,17 @@ impl Start {
     }
 }
 
+/// An entry's answer, its verdict's word, and the slot or the place.
+fn told(entry: &Entry) -> String {
+    let verdict = entry.verdict;
+    format!(
+        "{} {} {}",
+        verdict.number(),
+        verdict.word(),
+        verdict.value()
+    )
+}
+
 #[derive(Clone, Debug)]
 pub struct Calls {
     pub campaign: Campaign,
@@ -68,17 +81,20 @@ impl Calls {
         }
     }
 
-    /// Enters the first `length` samples of the recording at hand.
+    /// Enters the first `length` samples of the recording at hand as one period.
     pub fn enter(&mut self, day: u16, length: usize) {
-        let recording = &self.memory.recording[..length];
-        let entry = self.campaign.enter(&mut self.memory.lent, day, recording);
-        let (answer, word, value) = (
-            entry.verdict.number(),
-            entry.verdict.word(),
-            entry.verdict.value(),
-        );
-        self.lines
-            .push(format!("enter {} {answer} {word} {value}", entry.day));
+        let night = Night::one_period(&self.memory.recording[..length]);
+        let entry = self.campaign.enter(&mut self.memory.lent, day, night);
+        let told = told(&entry);
+        self.lines.push(format!("enter {} {told}", entry.day));
+    }
+
+    /// Enters them as a capture of m.
+    pub fn capture(&mut self, day: u16, m: u32, length: usize) {
+        let night = Night::capture(m, &self.memory.recording[..length]);
+        let entry = self.campaign.enter(&mut self.memory.lent, day, night);
+        let told = told(&entry);
+        self.lines.push(format!("capture {} {m} {told}", entry.day));
     }
 
     pub fn withdraw(&mut self, day: u16) {

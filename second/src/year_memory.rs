@@ -5,7 +5,7 @@ use crate::numbers::digest;
 
 pub const STORE: usize = 24_600;
 pub const SUMS: usize = 600;
-const RECORDING: usize = 512;
+const RECORDING: usize = 2_600;
 
 /// Place i of all but the recording holds i mod 7 at first, so that what a call may not touch shows.
 #[derive(Clone, Debug, PartialEq, Eq)]

@@ -2,6 +2,7 @@
 
 use second::campaign::{start, Campaign, DayState, Lent};
 use second::entering::Verdict::{self, *};
+use second::night::Night;
 use second::reading::{Levels, Summary};
 use second::refusal::{number, Refusal};
 use second::room::Room;
@@ -25,7 +26,8 @@ fn campaign(slots: u32) -> (Campaign, Lent) {
 }
 
 fn enter(at: &mut (Campaign, Lent), day: u16, recording: &[i32]) -> Verdict {
-    let entry = at.0.enter(&mut at.1, day, recording);
+    let night = Night::one_period(recording);
+    let entry = at.0.enter(&mut at.1, day, night);
     assert_eq!(entry.day, day);
     entry.verdict
 }

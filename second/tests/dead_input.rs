@@ -3,6 +3,7 @@
 use second::campaign::{start, Campaign, DayState, Lent};
 use second::entering::Verdict::{self, *};
 use second::entering::{fault, spread};
+use second::night::Night;
 use second::refusal::Refusal::{self, *};
 use second::response::{HIGHEST, LOWEST};
 
@@ -22,7 +23,8 @@ fn campaign(slots: usize) -> (Campaign, Lent) {
 }
 
 fn enter(at: &mut (Campaign, Lent), day: u16, recording: &[i32]) -> Verdict {
-    at.0.enter(&mut at.1, day, recording).verdict
+    let night = Night::one_period(recording);
+    at.0.enter(&mut at.1, day, night).verdict
 }
 
 /// The verdict on the first night of a campaign.
@@ -201,7 +203,7 @@ fn a_refusal_comes_before_a_dead_input_and_changes_nothing() {
     }
     let long = [DITHER.as_slice(), &[0]].concat();
     for wrong in [&[], &DITHER[..1], &DITHER[..P - 1], &long] {
-        assert_refused(at, 2, wrong, NotPLong);
+        assert_refused(at, 2, wrong, WrongLength);
     }
     for outside in [8_388_608, -8_388_609, i32::MAX, i32::MIN] {
         assert_refused(at, 2, &[outside; P], ValueOutsideRange);

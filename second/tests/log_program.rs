@@ -57,7 +57,7 @@ fn no_input() {
 
 #[test]
 fn the_first_record_is_a_start() {
-    for kind in [0, 2, 3, 4, 5, 6, 7, 255] {
+    for kind in [0, 2, 3, 4, 5, 6, 7, 8, 255] {
         assert_eq!(lines(&[kind, 1, 0, 0, 0]), "bad 0\n", "kind {kind}");
     }
     for length in 1..5 {
@@ -76,7 +76,7 @@ fn no_other_record_is_a_start() {
 
 #[test]
 fn unknown_kinds() {
-    for kind in [0, 7, 255] {
+    for kind in [0, 8, 255] {
         assert_eq!(lines(&log(&[&START, &[kind]])), "start 0\nbad 5\n");
         assert_eq!(
             lines(&log(&[&START, &[2, 1, 0], &[kind]])),

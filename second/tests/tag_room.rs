@@ -2,6 +2,7 @@
 
 use second::campaign::{start, Campaign, Lent};
 use second::entering::Verdict;
+use second::night::Night;
 use second::numbers::pattern;
 use second::reading::Summary;
 use second::refusal::number;
@@ -78,9 +79,8 @@ impl Caller {
     /// The recording stands on day 1.
     fn standing(order: u32) -> Caller {
         let mut caller = Caller::new(order);
-        let entry = caller
-            .campaign
-            .enter(&mut caller.lent, 1, &caller.recording);
+        let night = Night::one_period(&caller.recording);
+        let entry = caller.campaign.enter(&mut caller.lent, 1, night);
         assert_eq!(entry.verdict, Verdict::Kept { slot: 0 });
         caller
     }

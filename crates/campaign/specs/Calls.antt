@@ -1,5 +1,5 @@
 -- The calls that change a campaign, each by one function from all that is handed in to all that is handed back: document 01, "The campaign",
--- "Refusal numbers", "Order of checks" and "Room". Assumes nothing.
+-- "Refusal numbers", "Order of checks" and "Room", and document 02, request 1. Assumes nothing.
 use mathlib.Core.List.{List, [], _∷_, _++_}
 use mathlib.Core.Bool.{Bool, true, false, not, _&&_, _||_}
 use Prim.Native.Nat.{ℕ, _*_}
@@ -12,6 +12,8 @@ use Rattle.register.specs.Register.{P}
 use Rattle.register.specs.Calls.{tapsChecks, answerOf}
 use Rattle.samples.specs.Samples.{lengthOff, someOut, clearedWide}
 use Rattle.finding.specs.Finding.{finding}
+use Rattle.nights.specs.Nights.{periodsOf, periodsOut, nightLength, settled, term}
+use Rattle.nights.specs.declared.Night.{Night}
 use Rattle.finding.specs.declared.Finding.{Finding}
 use Rattle.finding.specs.declared.Finding.the-variants as found
 use Rattle.records.specs.Record.{standing, overloaded, dead, withdrawn, stands, daysIn, slot, free, base, sample, apart, fresh, marked, filed}
@@ -46,11 +48,24 @@ startOutcome c N taps C store sums =
       clearedWide (P N) sums,
     )
 
--- ---- enter: 15, 10, 5, 7, 11, verdict, 12; the entry with the record, the store and the sums
+-- ---- enter: 15, 10, 18, 5, 7, 11, verdict, 12; the entry with the record, the store and the sums
 
-abbrev pub enterChecks : Campaign → List ℤ → List ℤ → ℕ → List ℤ → List (ℕ × Bool)
-enterChecks c store sums d y =
-    (15, apart c store sums) ∷ (10, dayOut d) ∷ (5, lengthOff (P (c .order)) y) ∷ (7, someOut (length y) (at y)) ∷ (11, stands c d) ∷ []
+abbrev pub enterChecks : Campaign → List ℤ → List ℤ → ℕ → Night → List ℤ → List (ℕ × Bool)
+enterChecks c store sums d night y =
+    (15, apart c store sums)
+    ∷ (10, dayOut d)
+    ∷ (18, periodsOut night)
+    ∷ (5, lengthOff (nightLength (P (c .order)) night) y)
+    ∷ (7, someOut (length y) (at y))
+    ∷ (11, stands c d)
+    ∷ []
+
+-- the samples after the run-in, which are judged, and the sum of their periods, which is kept
+abbrev pub settledOf : Campaign → Night → List ℤ → List ℤ
+settledOf c night y = settled (P (c .order)) night y
+
+abbrev pub termOf : Campaign → Night → List ℤ → List ℤ
+termOf c night y = term (P (c .order)) (periodsOf night) (settledOf c night y)
 
 abbrev pub entered : Campaign → ℕ → Verdict → Entered
 entered c d v = record { entry = record { day = d; verdict = v }; campaign = c }
@@ -59,28 +74,29 @@ entered c d v = record { entry = record { day = d; verdict = v }; campaign = c }
 abbrev pub lowestFree : Campaign → ℕ
 lowestFree c = seek (free c) (c .capacity) 0
 
--- kept: it goes to that slot and is added to the sums
-abbrev pub keptOutcome : Campaign → List ℤ → List ℤ → ℕ → List ℤ → Entered × List ℤ × List ℤ
-keptOutcome c store sums d y = (
-  entered (filed c d standing (lowestFree c) d) d (verdict.Kept (lowestFree c)),
-  putAt (base c (lowestFree c)) y store,
-  put (table (P (c .order)) (λ j. at sums j +ℤ at y j)) sums,
+-- kept: the sum z of m periods goes to that slot and is added to the sums
+abbrev pub keptOutcome : Campaign → List ℤ → List ℤ → ℕ → ℕ → List ℤ → Entered × List ℤ × List ℤ
+keptOutcome c store sums d m z = (
+  entered (filed c d standing (lowestFree c) d m) d (verdict.Kept (lowestFree c)),
+  putAt (base c (lowestFree c)) z store,
+  put (table (P (c .order)) (λ j. at sums j +ℤ at z j)) sums,
 )
 
 -- 12, after the verdict: C days stand
-abbrev pub stayedOutcome : Campaign → List ℤ → List ℤ → ℕ → List ℤ → Entered × List ℤ × List ℤ
-stayedOutcome c store sums d y =
-    outcome ((12, eqb (daysIn c standing) (c .capacity)) ∷ []) (λ n. (entered c d (verdict.Refused n), store, sums)) (keptOutcome c store sums d y)
+abbrev pub stayedOutcome : Campaign → List ℤ → List ℤ → ℕ → ℕ → List ℤ → Entered × List ℤ × List ℤ
+stayedOutcome c store sums d m z =
+    outcome ((12, eqb (daysIn c standing) (c .capacity)) ∷ []) (λ n. (entered c d (verdict.Refused n), store, sums)) (keptOutcome c store sums d m z)
 
--- the verdict, by what the recording is found to be
-abbrev pub foundOutcome : Finding → Campaign → List ℤ → List ℤ → ℕ → List ℤ → Entered × List ℤ × List ℤ
-foundOutcome (found.Overloaded p) c store sums d y = (entered (marked c d overloaded) d (verdict.Overloaded p), store, sums)
-foundOutcome found.Dead c store sums d y = (entered (marked c d dead) d verdict.Dead, store, sums)
-foundOutcome found.Kept c store sums d y = stayedOutcome c store sums d y
+-- the verdict, by what those samples are found to be
+abbrev pub foundOutcome : Finding → Campaign → List ℤ → List ℤ → ℕ → ℕ → List ℤ → Entered × List ℤ × List ℤ
+foundOutcome (found.Overloaded p) c store sums d m z = (entered (marked c d overloaded) d (verdict.Overloaded p), store, sums)
+foundOutcome found.Dead c store sums d m z = (entered (marked c d dead) d verdict.Dead, store, sums)
+foundOutcome found.Kept c store sums d m z = stayedOutcome c store sums d m z
 
-unfoldable pub enterOutcome : Campaign → List ℤ → List ℤ → ℕ → List ℤ → Entered × List ℤ × List ℤ
-enterOutcome c store sums d y =
-    outcome (enterChecks c store sums d y) (λ n. (entered c d (verdict.Refused n), store, sums)) (foundOutcome (finding y) c store sums d y)
+unfoldable pub enterOutcome : Campaign → List ℤ → List ℤ → ℕ → Night → List ℤ → Entered × List ℤ × List ℤ
+enterOutcome c store sums d night y =
+    outcome (enterChecks c store sums d night y) (λ n. (entered c d (verdict.Refused n), store, sums))
+    (foundOutcome (finding (settledOf c night y)) c store sums d (periodsOf night) (termOf c night y))
 
 -- of an accepted entry: the verdict of its finding, and the state that this gives the day
 abbrev pub verdictOf : Campaign → Finding → Verdict
@@ -99,8 +115,9 @@ keeps (found.Overloaded p) = false
 keeps found.Dead = false
 keeps found.Kept = true
 
-abbrev pub enterAll : Campaign → List ℤ → List ℤ → ℕ → List ℤ → List (ℕ × Bool)
-enterAll c store sums d y = enterChecks c store sums d y ++ (12, keeps (finding y) && eqb (daysIn c standing) (c .capacity)) ∷ []
+abbrev pub enterAll : Campaign → List ℤ → List ℤ → ℕ → Night → List ℤ → List (ℕ × Bool)
+enterAll c store sums d night y =
+    enterChecks c store sums d night y ++ (12, keeps (finding (settledOf c night y)) && eqb (daysIn c standing) (c .capacity)) ∷ []
 
 -- ---- withdraw: 15, 10, 13; the answer with the record, the store and the sums
 
@@ -110,10 +127,10 @@ withdrawChecks c store sums d = (15, apart c store sums) ∷ (10, dayOut d) ∷ 
 abbrev pub slotOfDay : Campaign → ℕ → ℕ
 slotOfDay c d = seek (λ s. eqb (slot c s) d) (c .capacity) 0
 
--- its samples leave the sums, its slot becomes free and holds zeros
+-- its samples leave the sums, its slot becomes free, with no periods, and holds zeros
 abbrev pub withdrawnOutcome : Campaign → List ℤ → List ℤ → ℕ → Withdrawn × List ℤ × List ℤ
 withdrawnOutcome c store sums d = (
-  record { answer = 0; campaign = filed c d withdrawn (slotOfDay c d) 0 },
+  record { answer = 0; campaign = filed c d withdrawn (slotOfDay c d) 0 0 },
   putAt (base c (slotOfDay c d)) (table (P (c .order)) (λ _. pos 0)) store,
   put (table (P (c .order)) (λ j. at sums j -ℤ sample c store (slotOfDay c d) j)) sums,
 )

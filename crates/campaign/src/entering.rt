@@ -4,6 +4,11 @@ use crate::Entry;
 use crate::Verdict;
 use finding::Finding;
 use finding::looking::look;
+use nights::MOST_PERIODS;
+use nights::Night;
+use nights::shape::night_length;
+use nights::shape::periods_of;
+use nights::shape::run_in;
 use records::Campaign;
 use records::DEAD;
 use records::LAST_DAY;
@@ -21,11 +26,12 @@ use register::shift::full_period;
 use samples::range::some_out;
 ghost use mathlib.Core.Path.{_≡_};
 ghost use Rattle.sums.specs.Refusals.{first};
-ghost use Rattle.campaign.specs.Calls.{enterChecks, stayedOutcome, foundOutcome, enterOutcome};
+ghost use Rattle.nights.specs.Nights.{periodsOf};
+ghost use Rattle.campaign.specs.Calls.{enterChecks, termOf, stayedOutcome, foundOutcome, enterOutcome};
 
-// The first of 15, 10, 5, 7, 11 that refuses an entry, and 0 where none does.
-fn enter_refusal(c: Campaign, store: &[i32], sums: &[i64], d: u32, y: &[i32]) -> u32
-    ensures { λ n. ⌜ n ≡ first (enterChecks c (now (store .entry)) (now (sums .entry)) d (now (y .entry))) ⌝ }
+// The first of 15, 10, 18, 5, 7, 11 that refuses an entry, and 0 where none does.
+fn enter_refusal(c: Campaign, store: &[i32], sums: &[i64], d: u32, night: Night, y: &[i32]) -> u32
+    ensures { λ n. ⌜ n ≡ first (enterChecks c (now (store .entry)) (now (sums .entry)) d night (now (y .entry))) ⌝ }
 {
     if !holds(c, store, sums) {
         return 15;
@@ -33,8 +39,11 @@ fn enter_refusal(c: Campaign, store: &[i32], sums: &[i64], d: u32, y: &[i32]) ->
     if outside(d, LAST_DAY) {
         return 10;
     }
+    if outside(periods_of(night), MOST_PERIODS) {
+        return 18;
+    }
     let order = c.order;
-    if y.len() != full_period(order) as usize {
+    if y.len() != night_length(night, full_period(order) as usize) {
         return 5;
     }
     if some_out(y) {
@@ -56,10 +65,17 @@ fn entered(c: Campaign, d: u32, verdict: Verdict) -> Entered
     }
 }
 
-// A recording with no fault goes to the lowest-numbered free slot and is added to the sums, refusing 12.
-fn keep(c: Campaign, store: &mut [i32], sums: &mut [i64], d: u32, y: &[i32]) -> Entered
-    requires { ⌜ first (enterChecks c (now store) (now sums) d (now y)) ≡ 0 ⌝ }
-    ensures { λ r. ⌜ (r, now (store .exit), now (sums .exit)) ≡ stayedOutcome c (now (store .entry)) (now (sums .entry)) d (now (y .entry)) ⌝ }
+// The periods of a night with no fault, summed, go to the lowest-numbered free slot and are added to the sums, refusing 12.
+fn keep(
+    c: Campaign,
+    store: &mut [i32],
+    sums: &mut [i64],
+    d: u32,
+    night: Night,
+    y: &[i32],
+) -> Entered
+    requires { ⌜ first (enterChecks c (now store) (now sums) d night (now y)) ≡ 0 ⌝ }
+    ensures { λ r. ⌜ (r, now (store .exit), now (sums .exit)) ≡ stayedOutcome c (now (store .entry)) (now (sums .entry)) d (periodsOf night) (termOf c night (now (y .entry))) ⌝ }
 {
     let capacity = c.capacity as usize;
     let days = c.days;
@@ -68,36 +84,50 @@ fn keep(c: Campaign, store: &mut [i32], sums: &mut [i64], d: u32, y: &[i32]) -> 
     }
     let slots = c.slots;
     let s = find(&slots, capacity, 0);
-    fill_slot(s, y, store, sums);
-    entered(file(c, d, STANDING, s, d as u16), d, Verdict::Kept(s))
+    let order = c.order;
+    let period = full_period(order) as usize;
+    let from = run_in(night, period);
+    let m = periods_of(night) as u8;
+    fill_slot(s, period, m, &y[from..], store, sums);
+    entered(file(c, d, STANDING, s, d as u16, m), d, Verdict::Kept(s))
 }
 
-// What becomes of a day whose recording has passed the checks and is found to be this.
+// What becomes of a day whose night has passed the checks and is found to be this.
 fn settle(
     c: Campaign,
     store: &mut [i32],
     sums: &mut [i64],
     d: u32,
+    night: Night,
     y: &[i32],
     found: Finding,
 ) -> Entered
-    requires { ⌜ first (enterChecks c (now store) (now sums) d (now y)) ≡ 0 ⌝ }
-    ensures { λ r. ⌜ (r, now (store .exit), now (sums .exit)) ≡ foundOutcome found c (now (store .entry)) (now (sums .entry)) d (now (y .entry)) ⌝ }
+    requires { ⌜ first (enterChecks c (now store) (now sums) d night (now y)) ≡ 0 ⌝ }
+    ensures { λ r. ⌜ (r, now (store .exit), now (sums .exit)) ≡ foundOutcome found c (now (store .entry)) (now (sums .entry)) d (periodsOf night) (termOf c night (now (y .entry))) ⌝ }
 {
     match found {
         Finding::Overloaded(p) => entered(mark(c, d, OVERLOADED), d, Verdict::Overloaded(p)),
         Finding::Dead => entered(mark(c, d, DEAD), d, Verdict::Dead),
-        Finding::Kept => keep(c, store, sums, d, y),
+        Finding::Kept => keep(c, store, sums, d, night, y),
     }
 }
 
-// A day's recording judged, and kept where it has no fault, refusing 15, 10, 5, 7, 11, and 12 after the verdict.
-pub fn enter(c: Campaign, store: &mut [i32], sums: &mut [i64], d: u32, y: &[i32]) -> Entered
-    ensures { λ r. ⌜ (r, now (store .exit), now (sums .exit)) ≡ enterOutcome c (now (store .entry)) (now (sums .entry)) d (now (y .entry)) ⌝ }
+// A day's night judged, and kept where it has no fault, refusing 15, 10, 18, 5, 7, 11, and 12 after the verdict.
+pub fn enter(
+    c: Campaign,
+    store: &mut [i32],
+    sums: &mut [i64],
+    d: u32,
+    night: Night,
+    y: &[i32],
+) -> Entered
+    ensures { λ r. ⌜ (r, now (store .exit), now (sums .exit)) ≡ enterOutcome c (now (store .entry)) (now (sums .entry)) d night (now (y .entry)) ⌝ }
 {
-    let refusal = enter_refusal(c, store, sums, d, y);
+    let refusal = enter_refusal(c, store, sums, d, night, y);
     if refusal != 0 {
         return entered(c, d, Verdict::Refused(refusal));
     }
-    settle(c, store, sums, d, y, look(y))
+    let order = c.order;
+    let from = run_in(night, full_period(order) as usize);
+    settle(c, store, sums, d, night, y, look(&y[from..]))
 }

@@ -15,7 +15,7 @@ pub struct Started {
 pub enum Verdict {
     // Kept in this slot.
     Kept(usize),
-    // At a rail, first at this place.
+    // At a rail, first at this place after the run-in.
     Overloaded(usize),
     // Its largest sample minus its smallest is 7 or less.
     Dead,

@@ -3,6 +3,7 @@ use crate::Withdrawn;
 use records::Campaign;
 use records::FREE;
 use records::LAST_DAY;
+use records::NO_PERIODS;
 use records::WITHDRAWN;
 use records::filing::file;
 use records::slots::empty_slot;
@@ -49,6 +50,6 @@ pub fn withdraw(c: Campaign, store: &mut [i32], sums: &mut [i64], d: u32) -> Wit
     empty_slot(s, full_period(order) as usize, store, sums);
     Withdrawn {
         answer: 0,
-        campaign: file(c, d, WITHDRAWN, s, FREE),
+        campaign: file(c, d, WITHDRAWN, s, FREE, NO_PERIODS),
     }
 }

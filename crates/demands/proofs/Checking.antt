@@ -15,9 +15,9 @@ unfolding startOutcome withdrawOutcome
 refused-leaves w (start N taps C) h =
     ap (λ (o : Started × List ℤ × List ℤ). record { campaign = o .0 .campaign; store = o .1; sums = o .2 })
     (refused-same (startChecks N taps C (w .store) (w .sums)) (λ (o : Started × List ℤ × List ℤ). o .0 .answer .number) _ _ (λ n. refl) refl h)
-refused-leaves w (enter d y) h =
+refused-leaves w (enter d night y) h =
     ap (λ (o : Entered × List ℤ × List ℤ). record { campaign = o .0 .campaign; store = o .1; sums = o .2 })
-    (entry-refused (w .campaign) (w .store) (w .sums) d y h)
+    (entry-refused (w .campaign) (w .store) (w .sums) d night y h)
 refused-leaves w (withdraw d) h =
     ap (λ (o : Withdrawn × List ℤ × List ℤ). record { campaign = o .0 .campaign; store = o .1; sums = o .2 })
     (refused-same (withdrawChecks (w .campaign) (w .store) (w .sums) d) (λ (o : Withdrawn × List ℤ × List ℤ). o .0 .answer) _ _ (λ n. refl) refl h)

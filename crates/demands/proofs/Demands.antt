@@ -4,29 +4,31 @@
 -- The words used. `first checks` is the number of the first check whose test holds, 0 where none does; `numbers checks` are the numbers of all. `P N` is
 -- 2^N - 1, `window N taps k` the register after k steps from N ones, which is P N, and `wave N taps k` the signal 1 - 2·s(k). `at l j` is place j of a
 -- list, `sum n f` the sum of f 0 to f (n - 1). `run w₀ cs` is the world, a record with the memory lent, after the calls cs, the latest first.
--- `made w₀ cs d` is what the last accepted call naming day d made it, or unseen; `heard w₀ cs d` is the last recording accepted for it; `begun w₀ cs` is
--- the record that the last accepted start made.
+-- `made w₀ cs d` is what the last accepted call naming day d made it, or unseen; `heard w₀ cs d` is the last recording accepted for it, as its samples
+-- after the run-in and how many periods they are; `begun w₀ cs` is the record that the last accepted start made.
 use mathlib.Core.Path.{_≡_, refl, sym, ap, _∙_}
 use mathlib.Core.Logic.{_↔_, _⊎_}
-use mathlib.Core.Bool.{Bool, true, cond}
+use mathlib.Core.Bool.{Bool, true, false, cond, _&&_}
 use mathlib.Core.List.{List, [], _∷_, _++_}
 use Prim.Native.Nat.{ℕ, _+_, _-_, _*_, _%_, _^_, _≤_, _<_}
+use native.Mathlib.Nat.{one-mul, zero-mul}
 use native.Mathlib.Numerals.{add-one}
 use native.Mathlib.Omega.{arith}
-use lib.Dec.{eqb}
+use lib.Dec.{eqb, ltb}
 use lib.Count.{ones}
 use lib.IntN.{ℤ, pos, negsuc, natAbs, _-ℤ_, _*ℤ_}
-use lib.ListN.{length, getD, replicate}
+use lib.ListN.{length, getD, drop, replicate}
 use lib.Signed.{leZ}
 use Rattle.sums.specs.Sum.{sum, total, sign}
 use Rattle.sums.proofs.Largest.{Near, spread-exactly}
 use Rattle.sums.specs.Lists.{at, table, put, putAt, seek, some, every, many}
 use Rattle.sums.specs.Refusals.{first, numbers, outcome}
-use Rattle.register.specs.Register.{P, dot, step, window, bit, wave, period, Maximal}
+use Rattle.register.specs.Register.{P, dot, step, window, bit, wave, Maximal}
+use Rattle.register.specs.Register as register
 use Rattle.register.proofs.OddTaps.{accepted-maximal}
 use Rattle.register.specs.Calls.{orderOut, told, answerOf, shapeChecks, tapsChecks, tapsAnswer, sequenceChecks, sequenceOutcome}
 use Rattle.register.proofs.HowShort.{Tells}
-use Rattle.register.proofs.HowShort as period
+use Rattle.register.proofs.HowShort as short
 use Rattle.defaults.specs.Calls.{defaultOutcome, defaultNumber}
 use Rattle.defaults.specs.declared.DefaultTaps.the-variants as default
 use Rattle.player.specs.Calls.{newOutcome, stepChecks, stepOutcome, playOutcome, newNumber, tickNumber}
@@ -35,39 +37,46 @@ use Rattle.player.specs.declared.NewPlayer.the-variants as new
 use Rattle.player.specs.declared.Tick.the-variants as tick
 use Rattle.player.specs.declared.Stepped.{Stepped}
 use Rattle.player.specs.declared.Played.{Played}
-use Rattle.samples.specs.Samples.{someOut}
+use Rattle.samples.specs.Samples.{lengthOff, sampleOut, someOut, within}
 use Rattle.response.specs.Response as formula
 use Rattle.response.specs.Calls.{givenChecks, recordingChecks, recordingOutcome}
 use Rattle.response.proofs.Enough as of-recording
 use Rattle.prediction.specs.Calls.{predictionChecks, predictionOutcome, roomedChecks, roomedOutcome}
-use Rattle.rounding.specs.Rounding.{nearest}
+use Rattle.rounding.specs.Rounding.{nearest, rounded}
 use Rattle.finding.specs.Finding.{spread, finding}
 use Rattle.finding.specs.declared.Finding.{Finding}
 use Rattle.finding.specs.declared.Finding.the-variants as finds
 use Rattle.finding.proofs.Exactly.{Clear, Found, found-exactly}
-use Rattle.records.specs.Record.{unseen, standing, overloaded, dead, withdrawn, state, stands, daysIn, together, apart, fresh, marked, filed}
+use Rattle.nights.specs.Nights.{period, capture, periodsOf, periodsOut, nightLength, term}
+use Rattle.nights.specs.declared.Night.{Night}
+use Rattle.nights.proofs.Terms.{settled-at, term-at, term-one}
+use Rattle.records.specs.Record.{unseen, standing, overloaded, dead, withdrawn, state, stands, daysIn, slot, periods, periodsStanding, sample, together, apart, fresh, marked, filed}
+use Rattle.records.proofs.Holding.{holds-together}
+use Rattle.records.proofs.Totals.{periods-most}
 use Rattle.records.proofs.Refiling.{Day}
 use Rattle.records.specs.declared.Campaign.{Campaign}
-use Rattle.campaign.specs.Calls.{startChecks, startOutcome, entered, enterOutcome, verdictOf, stateOf, enterAll, withdrawChecks, withdrawOutcome, verdictNumber}
+use Rattle.campaign.specs.Calls.{dayOut, startChecks, startOutcome, settledOf, termOf, entered, enterOutcome, verdictOf, stateOf, keeps, enterAll, withdrawChecks, withdrawOutcome, verdictNumber}
 use Rattle.campaign.specs.declared.Started.{Started}
 use Rattle.campaign.proofs.EntryCases.{entry-first, entry-refused, verdict-exactly}
 use Rattle.campaign.proofs.Passing.{start-tells}
 use Rattle.campaign.specs.declared.Entered.{Entered}
 use Rattle.campaign.specs.declared.Withdrawn.{Withdrawn}
 use Rattle.campaign.specs.declared.Verdict.the-variants as verdict
-use Rattle.trend.specs.Calls.{countsOutcome, countsNumber, responseChecks, responseOutcome, summaryChecks, summaryOutcome, summaryNumber}
+use Rattle.trend.specs.Calls.{worked, countsOutcome, countsNumber, responseChecks, responseOutcome, summaryChecks, summaryOutcome, summaryNumber}
+use Rattle.trend.proofs.Bounds.{worked-small, mean-fits}
 use Rattle.trend.proofs.Enough as of-trend
 use Rattle.trend.specs.declared.Counts.the-variants as counts
 use Rattle.trend.specs.declared.Levels.{Levels}
 use Rattle.trend.specs.declared.Summary.{Summary}
 use Rattle.trend.specs.declared.Summary.the-variants as summary
-use Rattle.history.specs.Run.{World, Call, after, answer, run, underWay, begun, makes, made, heard, Elsewhere}
+use Rattle.history.specs.Run.{World, Call, after, answer, run, underWay, begun, makes, made, termAt, heard, Elsewhere}
 use Rattle.history.specs.Run as call
 use Rattle.history.proofs.UnderWay.{from-start}
 use Rattle.history.proofs.EveryRun as every-run
 use Rattle.history.proofs.AsIf as as-if
+use Rattle.history.proofs.ExactLevels.{Exact, levels-carried}
 use Rattle.demands.specs.Buffers.{KeepsTail, Cleared}
-use Rattle.sums.proofs.First.{answers-first, refused-same, either-0}
+use Rattle.sums.proofs.First.{answers-first, refused-same, either-0, or-exactly, ltb-exactly, exactly, passed-over}
 use Rattle.demands.proofs.Checking.{refused-leaves}
 use Rattle.demands.proofs.Tails.{sequence-tail, recording-tails, prediction-tail, prediction-in-room-tails, start-tails, enter-tails, withdraw-tails, response-tails, summary-tails}
 use Rattle.demands.proofs.Clearing.{recording-clears, response-clears, summary-clears}
@@ -106,9 +115,9 @@ pub record Refusals : Type 0 where
   pub start : (c : Campaign) (N taps C : ℕ) (store sums : List ℤ)
       → Checked (1 ∷ 2 ∷ 3 ∷ 4 ∷ 9 ∷ 6 ∷ []) (startChecks N taps C store sums) (λ (o : Started × List ℤ × List ℤ). o .0 .answer .number)
       (λ n. (record { answer = answerOf N taps n; campaign = c }, store, sums)) (startOutcome c N taps C store sums)
-  pub enter : (c : Campaign) (store sums : List ℤ) (d : ℕ) (y : List ℤ)
-      → Checked (15 ∷ 10 ∷ 5 ∷ 7 ∷ 11 ∷ 12 ∷ []) (enterAll c store sums d y) (λ (o : Entered × List ℤ × List ℤ). verdictNumber (o .0 .entry .verdict))
-      (λ n. (entered c d (verdict.Refused n), store, sums)) (enterOutcome c store sums d y)
+  pub enter : (c : Campaign) (store sums : List ℤ) (d : ℕ) (night : Night) (y : List ℤ)
+      → Checked (15 ∷ 10 ∷ 18 ∷ 5 ∷ 7 ∷ 11 ∷ 12 ∷ []) (enterAll c store sums d night y) (λ (o : Entered × List ℤ × List ℤ). verdictNumber (o .0 .entry .verdict))
+      (λ n. (entered c d (verdict.Refused n), store, sums)) (enterOutcome c store sums d night y)
   pub withdraw : (c : Campaign) (store sums : List ℤ) (d : ℕ)
       → Checked (15 ∷ 10 ∷ 13 ∷ []) (withdrawChecks c store sums d) (λ (o : Withdrawn × List ℤ × List ℤ). o .0 .answer)
       (λ n. (record { answer = n; campaign = c }, store, sums)) (withdrawOutcome c store sums d)
@@ -131,7 +140,7 @@ pub record Tails : Type 0 where
       KeepsTail (P N) out (o .1) × KeepsTail (P N + 1) room (o .2)
   pub start : (c : Campaign) (N taps C : ℕ) (store sums : List ℤ) → let o = startOutcome c N taps C store sums in
       KeepsTail (C * P N) store (o .1) × KeepsTail (P N) sums (o .2)
-  pub enter : (c : Campaign) (store sums : List ℤ) (d : ℕ) (y : List ℤ) → let o = enterOutcome c store sums d y in
+  pub enter : (c : Campaign) (store sums : List ℤ) (d : ℕ) (night : Night) (y : List ℤ) → let o = enterOutcome c store sums d night y in
       KeepsTail (c .capacity * P (c .order)) store (o .1) × KeepsTail (P (c .order)) sums (o .2)
   pub withdraw : (c : Campaign) (store sums : List ℤ) (d : ℕ) → let o = withdrawOutcome c store sums d in
       KeepsTail (c .capacity * P (c .order)) store (o .1) × KeepsTail (P (c .order)) sums (o .2)
@@ -164,8 +173,8 @@ demand-1 = (
     prediction-in-room = λ N taps h out room. checked _ _ _ _ _ refl (λ n. refl) refl;
     default-taps = λ N. checked _ _ _ _ _ refl (λ n. refl) refl;
     start = λ c N taps C store sums. checked _ _ _ _ _ refl (λ n. refl) refl;
-    enter = λ c store sums d y.
-        record { in-order = refl; answer = entry-first c store sums d y; unchanged = entry-refused c store sums d y };
+    enter = λ c store sums d night y.
+        record { in-order = refl; answer = entry-first c store sums d night y; unchanged = entry-refused c store sums d night y };
     withdraw = λ c store sums d. checked _ _ _ _ _ refl (λ n. refl) refl;
     counts = λ c store sums. checked _ _ _ _ _ refl (λ n. refl) refl;
     response = λ c store sums r mean room tags. checked _ _ _ _ _ refl (λ n. refl) refl;
@@ -238,17 +247,17 @@ pub how-short : Periods
 unfolding tapsAnswer sequenceOutcome recordingOutcome predictionOutcome roomedOutcome
 how-short =
     record {
-      taps-check = λ N taps was. period.how-short N taps (tapsChecks N taps) refl tt was;
+      taps-check = λ N taps was. short.how-short N taps (tapsChecks N taps) refl tt was;
       sequence = λ N taps was out.
-          period.how-short-by N taps (sequenceChecks N taps out) refl (λ (o : ℕ × List ℕ). o .0) _ _ (λ n. refl) refl refl tt was;
+          short.how-short-by N taps (sequenceChecks N taps out) refl (λ (o : ℕ × List ℕ). o .0) _ _ (λ n. refl) refl refl tt was;
       recording = λ N taps was y out room tags.
-          period.how-short-by N taps (recordingChecks N taps y out room tags) refl (λ (o : ℕ × List ℤ × List ℤ × List ℕ). o .0) _ _ (λ n. refl) refl refl tt was;
+          short.how-short-by N taps (recordingChecks N taps y out room tags) refl (λ (o : ℕ × List ℤ × List ℤ × List ℕ). o .0) _ _ (λ n. refl) refl refl tt was;
       prediction = λ N taps was h out.
-          period.how-short-by N taps (predictionChecks N taps h out) refl (λ (o : ℕ × List ℤ). o .0) _ _ (λ n. refl) refl refl tt was;
+          short.how-short-by N taps (predictionChecks N taps h out) refl (λ (o : ℕ × List ℤ). o .0) _ _ (λ n. refl) refl refl tt was;
       prediction-in-room = λ N taps was h out room.
-          period.how-short-by N taps (roomedChecks N taps h out room) refl (λ (o : ℕ × List ℤ × List ℤ). o .0) _ _ (λ n. refl) refl refl tt was;
+          short.how-short-by N taps (roomedChecks N taps h out room) refl (λ (o : ℕ × List ℤ × List ℤ). o .0) _ _ (λ n. refl) refl refl tt was;
       start = λ c N taps C store sums.
-          rw (start-tells c N taps C store sums) (period.how-short N taps (startChecks N taps C store sums) refl tt 0);
+          rw (start-tells c N taps C store sums) (short.how-short N taps (startChecks N taps C store sums) refl tt 0);
     }
 
 -- ---- Document 02: "Turning one recording, a response and a summary must work with P tags instead of 2P, and P+1 wide numbers as now. Show that every order
@@ -302,18 +311,21 @@ half-the-tags =
 -- `spread y` is the largest sample of y minus its smallest. `Near 7 n f`: no two of f 0 to f (n - 1) are more than 7 apart, which is to say that the spread
 -- is 7 or less (`no-two`); `Apart 7 n f`: two of them are. `Clear y`: no sample of y is -8,388,608 or 8,388,607; `FirstAtRail y p`: p is the first place
 -- where one is. `Found y f` says of the samples what the finding f means: of Overloaded p `FirstAtRail y p`, of Dead `Clear y` and `Near`, of Kept `Clear y`
--- and `Apart`. Every recording has one finding and only one (`found`). An entry has its verdict exactly where no check refuses (`given`; `dead` is its case
+-- and `Apart`. Every recording has one finding and only one (`found`). An entry is judged by
+-- its samples after the run-in, `settledOf c night y`, which are all where it has none. It has its verdict exactly where no check refuses (`given`; `dead` is its case
 -- of Dead), and an accepted one makes of its day the state that goes with it (`day`), by which demand 3 goes.
 
 pub record Verdicts : Type 0 where
   pub no-two : (y : List ℤ) → (leZ (spread y) (pos 7) ≡ true) ↔ Near 7 (length y) (at y)
   pub found : (y : List ℤ) (f : Finding) → (finding y ≡ f) ↔ Found y f
-  pub given : (c : Campaign) (store sums : List ℤ) (d : ℕ) (y : List ℤ) (f : Finding)
-      → (enterOutcome c store sums d y .0 .entry .verdict ≡ verdictOf c f) ↔ ((first (enterAll c store sums d y) ≡ 0) × Found y f)
-  pub dead : (c : Campaign) (store sums : List ℤ) (d : ℕ) (y : List ℤ)
-      → (enterOutcome c store sums d y .0 .entry .verdict ≡ verdict.Dead)
-      ↔ ((first (enterAll c store sums d y) ≡ 0) × (Clear y × Near 7 (length y) (at y)))
-  pub day : (d : ℕ) (y : List ℤ) (f : Finding) → Found y f → makes (call.enter d y) ≡ stateOf f
+  pub given : (c : Campaign) (store sums : List ℤ) (d : ℕ) (night : Night) (y : List ℤ) (f : Finding)
+      → (enterOutcome c store sums d night y .0 .entry .verdict ≡ verdictOf c f)
+      ↔ ((first (enterAll c store sums d night y) ≡ 0) × Found (settledOf c night y) f)
+  pub dead : (c : Campaign) (store sums : List ℤ) (d : ℕ) (night : Night) (y : List ℤ) → let z = settledOf c night y in
+      (enterOutcome c store sums d night y .0 .entry .verdict ≡ verdict.Dead)
+      ↔ ((first (enterAll c store sums d night y) ≡ 0) × (Clear z × Near 7 (length z) (at z)))
+  pub day : (w : World) (d : ℕ) (night : Night) (y : List ℤ) (f : Finding) → Found (settledOf (w .campaign) night y) f
+      → makes w (call.enter d night y) ≡ stateOf f
 
 pub never-still : Verdicts
 never-still =
@@ -321,37 +333,105 @@ never-still =
       no-two = λ y. spread-exactly 7 (length y) (at y);
       found = found-exactly;
       given = said-of;
-      dead = λ c store sums d y. said-of c store sums d y finds.Dead;
-      day = λ d y f h. ap stateOf (found-exactly y f .1 h);
+      dead = λ c store sums d night y. said-of c store sums d night y finds.Dead;
+      day = λ w d night y f h. ap stateOf (found-exactly (settledOf (w .campaign) night y) f .1 h);
     }
   where
-    said-of : (c : Campaign) (store sums : List ℤ) (d : ℕ) (y : List ℤ) (f : Finding)
-        → (enterOutcome c store sums d y .0 .entry .verdict ≡ verdictOf c f) ↔ ((first (enterAll c store sums d y) ≡ 0) × Found y f)
-    said-of c store sums d y f =
-        let v = verdict-exactly c store sums d y f in
-        let w = found-exactly y f in
+    said-of : (c : Campaign) (store sums : List ℤ) (d : ℕ) (night : Night) (y : List ℤ) (f : Finding)
+        → (enterOutcome c store sums d night y .0 .entry .verdict ≡ verdictOf c f)
+        ↔ ((first (enterAll c store sums d night y) ≡ 0) × Found (settledOf c night y) f)
+    said-of c store sums d night y f =
+        let v = verdict-exactly c store sums d night y f in
+        let w = found-exactly (settledOf c night y) f in
         (λ q. (v .0 q .0, w .0 (v .0 q .1)), λ h. v .1 (h .0, w .1 (h .1)))
+
+-- ---- Document 02: "A night's capture is m+1 whole periods, m from 1 to 16; the first is the run-in and is dropped … The other m are summed place by place
+-- and that sum is what a slot holds. The record keeps m for each standing day … the old one-period entry stays and counts as m = 1. … Used slots must hold
+-- -8,388,607·m to 8,388,606·m, with m from 1 to 16; every other m the record has is 0 … Means and levels divide by (P+1) times the total periods standing,
+-- and the levels are exact where that total is a power of two. … Refusals: 18 for m out of range, after 10".
+--
+-- An entry is given a night, `period` or `capture m`, and its samples y. `settledOf c night y` are those after the run-in and `termOf c night y` their
+-- periods summed, which `enterOutcome` puts into the slot with `periodsOf night`. `periods c s` is the m of slot s, `periodsStanding c` the total of
+-- them, and `divisor c` is (P+1) times that total.
+
+pub record Nights : Type 0 where
+  pub one-period : (c : Campaign) (y : List ℤ) → (periodsOf period ≡ 1) × (settledOf c period y ≡ y)
+      × (length y ≡ P (c .order) → termOf c period y ≡ y)
+  pub run-in-dropped : (c : Campaign) (m : ℕ) (y : List ℤ) (i : ℕ) → at (settledOf c (capture m) y) i ≡ at y (P (c .order) + i)
+  pub summed : (c : Campaign) (night : Night) (y : List ℤ) (j : ℕ) → j < P (c .order)
+      → at (termOf c night y) j ≡ sum (periodsOf night) (λ i. at (settledOf c night y) (i * P (c .order) + j))
+  pub eighteen : (c : Campaign) (store sums : List ℤ) (d m : ℕ) (y : List ℤ)
+      → (verdictNumber (enterOutcome c store sums d (capture m) y .0 .entry .verdict) ≡ 18)
+      ↔ ((first ((15, apart c store sums) ∷ (10, dayOut d) ∷ []) ≡ 0) × ((m < 1) ⊎ (16 < m)))
+  pub one-period-never-eighteen : (c : Campaign) (store sums : List ℤ) (d : ℕ) (y : List ℤ)
+      → verdictNumber (enterOutcome c store sums d period y .0 .entry .verdict) ≡ 18 → ⊥
+  -- of a record that holds together
+  pub every-m : (c : Campaign) (store sums : List ℤ) → together c store sums ≡ true → (s : ℕ) → s < 64
+      → (slot c s ≡ 0 → periods c s ≡ 0) × ((slot c s ≡ 0 → ⊥) → (1 ≤ periods c s) × (periods c s ≤ 16))
+  pub slots-within : (c : Campaign) (store sums : List ℤ) → together c store sums ≡ true → (s : ℕ) → s < c .capacity → (slot c s ≡ 0 → ⊥)
+      → (j : ℕ) → j < P (c .order) → within (periods c s) (sample c store s j) ≡ true
+  pub at-most : (c : Campaign) (store sums : List ℤ) → together c store sums ≡ true → periodsStanding c ≤ 1024
+  pub small : (c : Campaign) (store sums : List ℤ) → together c store sums ≡ true → (k : ℕ) → natAbs (worked c sums k) < 2 ^ 49
+  pub mean-fits : (c : Campaign) (store sums : List ℤ) → together c store sums ≡ true → (daysIn c standing ≡ 0 → ⊥)
+      → (k : ℕ) → sampleOut (rounded (worked c sums k) ((P (c .order) + 1) * periodsStanding c)) ≡ false
+  -- `Exact`: each level is exactly its r over the divisor
+  pub exact : (c : Campaign) (store sums room : List ℤ) (tags : List ℕ) → together c store sums ≡ true
+      → (n : ℕ) → periodsStanding c ≡ 2 ^ n → (l : Levels) → summaryOutcome c store sums room tags .0 ≡ summary.Measured l → Exact c sums l
+
+-- the checks of an entry behind 18
+abbrev behind-eighteen : Campaign → ℕ → Night → List ℤ → List (ℕ × Bool)
+behind-eighteen c d night y =
+    (5, lengthOff (nightLength (P (c .order)) night) y)
+    ∷ (7, someOut (length y) (at y))
+    ∷ (11, stands c d)
+    ∷ (12, keeps (finding (settledOf c night y)) && eqb (daysIn c standing) (c .capacity))
+    ∷ []
+
+pub several-periods : Nights
+several-periods =
+    record {
+      one-period = λ c y. (refl, nothing-dropped c y, λ e. ap (term (P (c .order)) 1) (nothing-dropped c y) ∙ term-one (P (c .order)) y e);
+      run-in-dropped = λ c m y i. settled-at (P (c .order)) (capture m) y i ∙ ap (λ n. at y (n + i)) (one-mul (P (c .order)));
+      summed = λ c night y j l. term-at (P (c .order)) (periodsOf night) (settledOf c night y) j l;
+      eighteen = λ c store sums d m y.
+          exactly _ 18 ((15, apart c store sums) ∷ (10, dayOut d) ∷ []) (periodsOut (capture m)) (behind-eighteen c d (capture m) y) (entry-first c store sums d (capture m) y) tt tt tt
+          (or-exactly (ltb m 1) (ltb 16 m) (ltb-exactly m 1) (ltb-exactly 16 m));
+      one-period-never-eighteen = λ c store sums d y.
+          passed-over _ 18 ((15, apart c store sums) ∷ (10, dayOut d) ∷ []) (periodsOut period) (behind-eighteen c d period y) (entry-first c store sums d period y) tt refl .0;
+      every-m = λ c store sums h s l. let f = holds-together c store sums .0 h .filed in (f .uncounted s l, f .counted s l);
+      slots-within = λ c store sums h. holds-together c store sums .0 h .used;
+      at-most = λ c store sums h. periods-most c (holds-together c store sums .0 h .filed);
+      small = λ c store sums h. worked-small c store sums (holds-together c store sums .0 h);
+      mean-fits = λ c store sums h. mean-fits c store sums (holds-together c store sums .0 h);
+      exact = λ c store sums room tags h n e l. levels-carried c store sums room tags h n e l;
+    }
+  where
+    nothing-dropped : (c : Campaign) (y : List ℤ) → settledOf c period y ≡ y
+    nothing-dropped c y = ap (λ n. drop n y) (zero-mul (P (c .order)))
 
 -- ---- 3. "After any run of calls from a fresh campaign, refused ones included and its lent memory untouched between, each day's state is what the last
 -- accepted call naming that day made it, or unseen if there was none. The sums total, place by place, the last recordings accepted for exactly the days
 -- then standing. If at least one day stands, and each such recording is the circular convolution of a whole-number response with the sequence, the
 -- answer at every place is exactly P + 1 times the sum of those responses there."
 --
--- The calls `cs`, the latest first, lead from w₀, a record and memory that may hold anything, to w. A start may come again: refused, the campaign goes
+-- Request 1 of document 02 reads it with a day's term as the sum of its periods, `termAt P (heard w₀ cs d) j` at place j, each a convolution of its own
+-- whole-number response: h d p is that of period p of day d. The calls `cs`, the latest first, lead from w₀, a record and memory that may hold anything, to w. A start may come again: refused, the campaign goes
 -- on; accepted, it names every day, and a new campaign begins. The order, taps and capacity are those of the last accepted start (`begun`).
 
 pub record Said (w₀ : World) (cs : List Call) (w : World) : Type 0 where
   pub each-day : (d : ℕ) → 1 ≤ d → d ≤ 366 → state (w .campaign) d ≡ made w₀ cs d
-  pub sums : (j : ℕ) → j < P (begun w₀ cs .order)
-      → at (w .sums) j ≡ sum 366 (λ i. cond (eqb (made w₀ cs (i + 1)) standing) (at (heard w₀ cs (i + 1)) j) (pos 0))
-  pub response : let N = begun w₀ cs .order in (h : ℕ → ℕ → ℤ)
-      → ((d : ℕ) → 1 ≤ d → d ≤ 366 → made w₀ cs d ≡ standing → (j : ℕ) → j < P N
-      → at (heard w₀ cs d) j ≡ sum (P N) (λ i. h d i *ℤ wave N (begun w₀ cs .taps) ((j + (P N - i)) % P N)))
+  pub sums : let N = begun w₀ cs .order in (j : ℕ) → j < P N
+      → at (w .sums) j ≡ sum 366 (λ i. cond (eqb (made w₀ cs (i + 1)) standing) (termAt (P N) (heard w₀ cs (i + 1)) j) (pos 0))
+  pub periods : periodsStanding (w .campaign) ≡ total 366 (λ i. cond (eqb (made w₀ cs (i + 1)) standing) (heard w₀ cs (i + 1) .periods) 0)
+  pub response : let N = begun w₀ cs .order in (h : ℕ → ℕ → ℕ → ℤ)
+      → ((d : ℕ) → 1 ≤ d → d ≤ 366 → made w₀ cs d ≡ standing → (p : ℕ) → p < heard w₀ cs d .periods → (j : ℕ) → j < P N
+      → at (heard w₀ cs d .samples) (p * P N + j) ≡ sum (P N) (λ i. h d p i *ℤ wave N (begun w₀ cs .taps) ((j + (P N - i)) % P N)))
       → (d : ℕ) → 1 ≤ d → d ≤ 366 → made w₀ cs d ≡ standing
       → (r mean room : List ℤ) (tags : List ℕ) → P N ≤ length r → P N ≤ length mean → P N + 1 ≤ length room → P N ≤ length tags
       → let o = responseOutcome (w .campaign) (w .store) (w .sums) r mean room tags in
       (o .0 ≡ 0)
-      × ((k : ℕ) → k < P N → at (o .1) k ≡ pos (P N + 1) *ℤ sum 366 (λ i. cond (eqb (made w₀ cs (i + 1)) standing) (h (i + 1) k) (pos 0)))
+      × ((k : ℕ) → k < P N → at (o .1) k
+      ≡ pos (P N + 1) *ℤ sum 366 (λ i. cond (eqb (made w₀ cs (i + 1)) standing) (sum (heard w₀ cs (i + 1) .periods) (λ p. h (i + 1) p k)) (pos 0)))
   -- and what document 01 adds
   pub order : w .campaign .order ≡ begun w₀ cs .order
   pub taps : w .campaign .taps ≡ begun w₀ cs .taps
@@ -370,11 +450,12 @@ pub record Said (w₀ : World) (cs : List Call) (w : World) : Type 0 where
 
 -- of every run in which a start was accepted
 pub said : (w₀ : World) (cs : List Call) → underWay w₀ cs ≡ true → Said w₀ cs (run w₀ cs)
-unfolding every-run.daysMade every-run.total formula.prediction
+unfolding every-run.daysMade every-run.responses formula.prediction
 said w₀ cs u =
     record {
       each-day = λ d a b. every-run.each-day w₀ cs u d (record { first = a; last = b });
       sums = every-run.sums-are w₀ cs u;
+      periods = every-run.periods-are w₀ cs u;
       response = λ h v d a b e r mean room tags l1 l2 l3 l4.
           rw (add-one (P (begun w₀ cs .order)))
           (every-run.recovered w₀ cs u h (λ d y. v d (y .first) (y .last)) d (record { first = a; last = b }) e r mean room tags
@@ -396,50 +477,52 @@ demand-3 w₀ N taps C e cs = said _ _ (from-start w₀ N taps C e cs)
 -- ---- Document 01: "A kept entry followed at once by its withdrawal gives back store, sums and slots bit for bit. With calls on other days between, the sums
 -- and the set of standing days are as if it had not come, provided none of those calls was refused with 12; slots may differ."
 --
--- `makes` is what an accepted call makes of its day: standing, so the entry is kept. `Elsewhere`: the calls between name other days than d, and none of
+-- At once the table of m is back as well. `makes` is what an accepted call makes of its day: standing, so the entry is kept. `Elsewhere`: the calls between name other days than d, and none of
 -- them is refused with 12.
 
-pub record TakenBack (w₀ : World) (cs : List Call) (d : ℕ) (y : List ℤ) : Type 0 where
-  pub at-once : let w = run w₀ (call.withdraw d ∷ call.enter d y ∷ cs) in
+pub record TakenBack (w₀ : World) (cs : List Call) (d : ℕ) (night : Night) (y : List ℤ) : Type 0 where
+  pub at-once : let w = run w₀ (call.withdraw d ∷ call.enter d night y ∷ cs) in
       (w .store ≡ run w₀ cs .store) × (w .sums ≡ run w₀ cs .sums) × (w .campaign .slots ≡ run w₀ cs .campaign .slots)
-  pub as-if : (between : List Call) → Elsewhere w₀ d (call.enter d y ∷ cs) between
-      → let with-it = run w₀ (call.withdraw d ∷ between ++ call.enter d y ∷ cs) in
+      × (w .campaign .periods ≡ run w₀ cs .campaign .periods)
+  pub as-if : (between : List Call) → Elsewhere w₀ d (call.enter d night y ∷ cs) between
+      → let with-it = run w₀ (call.withdraw d ∷ between ++ call.enter d night y ∷ cs) in
       let without-it = run w₀ (between ++ cs) in
-      (answer (run w₀ (between ++ call.enter d y ∷ cs)) (call.withdraw d) ≡ 0)
+      (answer (run w₀ (between ++ call.enter d night y ∷ cs)) (call.withdraw d) ≡ 0)
       × ((j : ℕ) → j < P (begun w₀ cs .order) → at (with-it .sums) j ≡ at (without-it .sums) j)
       × ((e : ℕ) → 1 ≤ e → e ≤ 366 → stands (with-it .campaign) e ≡ stands (without-it .campaign) e)
 
-pub taken-back : (w₀ : World) (cs : List Call) → underWay w₀ cs ≡ true → (d : ℕ) → 1 ≤ d → d ≤ 366 → (y : List ℤ)
-    → answer (run w₀ cs) (call.enter d y) ≡ 0 → makes (call.enter d y) ≡ standing → TakenBack w₀ cs d y
+pub taken-back : (w₀ : World) (cs : List Call) → underWay w₀ cs ≡ true → (d : ℕ) → 1 ≤ d → d ≤ 366 → (night : Night) (y : List ℤ)
+    → answer (run w₀ cs) (call.enter d night y) ≡ 0 → makes (run w₀ cs) (call.enter d night y) ≡ standing → TakenBack w₀ cs d night y
 unfolding run
-taken-back w₀ cs u d a b y e k =
+taken-back w₀ cs u d a b night y e k =
     let r : Day d = record { first = a; last = b } in
-    let o = as-if.at-once w₀ cs u d y r e k in
+    let o = as-if.at-once w₀ cs u d night y r e k in
     record {
-      at-once = (o .store, o .sums, o .slots);
+      at-once = (o .store, o .sums, o .slots, o .periods);
       as-if = λ between n.
-          let s = as-if.as-if w₀ cs u d y r e k between n in (
+          let s = as-if.as-if w₀ cs u d night y r e k between n in (
             s .0,
             s .1 .sums,
             λ i l h. s .1 .days i (record { first = l; last = h }),
           );
     }
 
--- ---- It is about something: order 2, taps 3, two slots, on memory that held nines; two nights, the first withdrawn; computed.
+-- ---- It is about something: order 2, taps 3, two slots, on memory that held nines; two nights, of which the second is a capture of two periods, the first withdrawn; computed.
 
--- the convolutions of 9, 0, -4 and of 4, 0, 1 with the sequence 1, 1, 0
+-- the convolution of 9, 0, -4 with the sequence 1, 1, 0
 abbrev pub night-1 : List ℤ
 night-1 = negsuc 4 ∷ negsuc 12 ∷ pos 13 ∷ []
 
+-- a run-in at the rail, and then the convolutions of 4, 0, 1 and of 2, 1, 0
 abbrev pub night-2 : List ℤ
-night-2 = negsuc 4 ∷ negsuc 2 ∷ pos 3 ∷ []
+night-2 = pos 8388607 ∷ pos 0 ∷ pos 0 ∷ negsuc 4 ∷ negsuc 2 ∷ pos 3 ∷ negsuc 0 ∷ negsuc 2 ∷ pos 1 ∷ []
 
 -- samples 7 apart
 abbrev pub night-3 : List ℤ
 night-3 = pos 0 ∷ pos 7 ∷ pos 3 ∷ []
 
 abbrev pub nights : List Call
-nights = call.enter 2 night-2 ∷ call.enter 1 night-1 ∷ call.start 2 3 2 ∷ []
+nights = call.enter 2 (capture 2) night-2 ∷ call.enter 1 period night-1 ∷ call.start 2 3 2 ∷ []
 
 -- what is lent, and what the start, each night and the withdrawal make of it
 abbrev pub lent : World
@@ -456,7 +539,7 @@ began =
 abbrev pub one-night : World
 one-night =
     record {
-      campaign = filed (fresh 2 3 2) 1 standing 0 1;
+      campaign = filed (fresh 2 3 2) 1 standing 0 1 1;
       store = negsuc 4 ∷ negsuc 12 ∷ pos 13 ∷ pos 0 ∷ pos 0 ∷ pos 0 ∷ pos 9 ∷ [];
       sums = negsuc 4 ∷ negsuc 12 ∷ pos 13 ∷ pos 9 ∷ [];
     }
@@ -464,9 +547,9 @@ one-night =
 abbrev pub two-nights : World
 two-nights =
     record {
-      campaign = filed (filed (fresh 2 3 2) 1 standing 0 1) 2 standing 1 2;
-      store = negsuc 4 ∷ negsuc 12 ∷ pos 13 ∷ negsuc 4 ∷ negsuc 2 ∷ pos 3 ∷ pos 9 ∷ [];
-      sums = negsuc 9 ∷ negsuc 15 ∷ pos 16 ∷ pos 9 ∷ [];
+      campaign = filed (filed (fresh 2 3 2) 1 standing 0 1 1) 2 standing 1 2 2;
+      store = negsuc 4 ∷ negsuc 12 ∷ pos 13 ∷ negsuc 5 ∷ negsuc 5 ∷ pos 4 ∷ pos 9 ∷ [];
+      sums = negsuc 10 ∷ negsuc 18 ∷ pos 17 ∷ pos 9 ∷ [];
     }
 
 abbrev pub one-dead : World
@@ -475,9 +558,9 @@ one-dead = record { campaign = marked (two-nights .campaign) 3 dead; store = two
 abbrev pub one-left : World
 one-left =
     record {
-      campaign = filed (filed (filed (fresh 2 3 2) 1 standing 0 1) 2 standing 1 2) 1 withdrawn 0 0;
-      store = pos 0 ∷ pos 0 ∷ pos 0 ∷ negsuc 4 ∷ negsuc 2 ∷ pos 3 ∷ pos 9 ∷ [];
-      sums = negsuc 4 ∷ negsuc 2 ∷ pos 3 ∷ pos 9 ∷ [];
+      campaign = filed (filed (filed (fresh 2 3 2) 1 standing 0 1 1) 2 standing 1 2 2) 1 withdrawn 0 0 0;
+      store = pos 0 ∷ pos 0 ∷ pos 0 ∷ negsuc 5 ∷ negsuc 5 ∷ pos 4 ∷ pos 9 ∷ [];
+      sums = negsuc 5 ∷ negsuc 5 ∷ pos 4 ∷ pos 9 ∷ [];
     }
 
 -- a response with one place more than it needs in r, and twice the tags
@@ -491,16 +574,16 @@ half-zeros = 0 ∷ 0 ∷ 0 ∷ 9 ∷ 9 ∷ 9 ∷ []
 pub record Witness : Type 0 where
   pub started : startOutcome (lent .campaign) 2 3 2 (lent .store) (lent .sums) .0 .answer .number ≡ 0
   pub begins : run lent (call.start 2 3 2 ∷ []) ≡ began
-  pub first-night : (answer began (call.enter 1 night-1) ≡ 0) × (run lent (call.enter 1 night-1 ∷ call.start 2 3 2 ∷ []) ≡ one-night)
-  pub second-night : (answer one-night (call.enter 2 night-2) ≡ 0) × (run lent nights ≡ two-nights)
-  pub both : asked two-nights ≡ (0, pos 52 ∷ pos 0 ∷ negsuc 11 ∷ pos 9 ∷ [], pos 7 ∷ pos 0 ∷ negsuc 1 ∷ [], replicate 4 (pos 0), half-zeros)
+  pub first-night : (answer began (call.enter 1 period night-1) ≡ 0) × (run lent (call.enter 1 period night-1 ∷ call.start 2 3 2 ∷ []) ≡ one-night)
+  pub second-night : (answer one-night (call.enter 2 (capture 2) night-2) ≡ 0) × (run lent nights ≡ two-nights)
+  pub both : asked two-nights ≡ (0, pos 60 ∷ pos 4 ∷ negsuc 11 ∷ pos 9 ∷ [], pos 5 ∷ pos 0 ∷ negsuc 0 ∷ [], replicate 4 (pos 0), half-zeros)
   -- a third night is dead, and store and sums stay
-  pub quiet-night : (answer two-nights (call.enter 3 night-3) ≡ 0)
-      × (after two-nights (call.enter 3 night-3) ≡ one-dead)
+  pub quiet-night : (answer two-nights (call.enter 3 period night-3) ≡ 0)
+      × (after two-nights (call.enter 3 period night-3) ≡ one-dead)
   pub withdrawal : (answer two-nights (call.withdraw 1) ≡ 0) × (run lent (call.withdraw 1 ∷ nights) ≡ one-left)
   pub days : (made lent (call.withdraw 1 ∷ nights) 1 ≡ withdrawn) × (made lent (call.withdraw 1 ∷ nights) 2 ≡ standing)
       × (made lent (call.withdraw 1 ∷ nights) 3 ≡ unseen)
-  pub second : asked one-left ≡ (0, pos 16 ∷ pos 0 ∷ pos 4 ∷ pos 9 ∷ [], pos 4 ∷ pos 0 ∷ pos 1 ∷ [], replicate 4 (pos 0), half-zeros)
+  pub second : asked one-left ≡ (0, pos 24 ∷ pos 4 ∷ pos 4 ∷ pos 9 ∷ [], pos 3 ∷ pos 1 ∷ pos 1 ∷ [], replicate 4 (pos 0), half-zeros)
   -- a start refused with 4 tells after how many steps the register returns
   pub short-start : startOutcome (lent .campaign) 4 15 2 (lent .store) (lent .sums)
       ≡ (record { answer = record { number = 4; period = 5 }; campaign = lent .campaign }, lent .store, lent .sums)
@@ -510,42 +593,42 @@ pub record Witness : Type 0 where
       × (after two-nights (call.start 2 3 1)
       ≡ record {
         campaign = fresh 2 3 1;
-        store = pos 0 ∷ pos 0 ∷ pos 0 ∷ negsuc 4 ∷ negsuc 2 ∷ pos 3 ∷ pos 9 ∷ [];
+        store = pos 0 ∷ pos 0 ∷ pos 0 ∷ negsuc 5 ∷ negsuc 5 ∷ pos 4 ∷ pos 9 ∷ [];
         sums = pos 0 ∷ pos 0 ∷ pos 0 ∷ pos 9 ∷ [];
       })
 
 start-computed : (startOutcome (lent .campaign) 2 3 2 (lent .store) (lent .sums) .0 .answer .number ≡ 0) × (after lent (call.start 2 3 2) ≡ began)
-unfolding startOutcome period seek table put window step dot ones
+unfolding startOutcome register.period seek table put window step dot ones
 start-computed = (refl, refl)
 
-first-computed : (answer began (call.enter 1 night-1) ≡ 0) × (after began (call.enter 1 night-1) ≡ one-night)
-unfolding enterOutcome finding together tapsAnswer period seek some every many total sum table put putAt window step dot ones
+first-computed : (answer began (call.enter 1 period night-1) ≡ 0) × (after began (call.enter 1 period night-1) ≡ one-night)
+unfolding enterOutcome term finding together tapsAnswer register.period seek some every many total sum table put putAt window step dot ones
 first-computed = (refl, refl)
 
-second-computed : (answer one-night (call.enter 2 night-2) ≡ 0) × (after one-night (call.enter 2 night-2) ≡ two-nights)
-unfolding enterOutcome finding together tapsAnswer period seek some every many total sum table put putAt window step dot ones
+second-computed : (answer one-night (call.enter 2 (capture 2) night-2) ≡ 0) × (after one-night (call.enter 2 (capture 2) night-2) ≡ two-nights)
+unfolding enterOutcome term finding together tapsAnswer register.period seek some every many total sum table put putAt window step dot ones
 second-computed = (refl, refl)
 
-quiet-computed : (answer two-nights (call.enter 3 night-3) ≡ 0)
-    × (after two-nights (call.enter 3 night-3) ≡ one-dead)
-unfolding enterOutcome finding together tapsAnswer period seek some every many total sum table put putAt window step dot ones
+quiet-computed : (answer two-nights (call.enter 3 period night-3) ≡ 0)
+    × (after two-nights (call.enter 3 period night-3) ≡ one-dead)
+unfolding enterOutcome term finding together tapsAnswer register.period seek some every many total sum table put putAt window step dot ones
 quiet-computed = (refl, refl)
 
 withdrawal-computed : (answer two-nights (call.withdraw 1) ≡ 0) × (after two-nights (call.withdraw 1) ≡ one-left)
-unfolding withdrawOutcome together tapsAnswer period seek some every many total sum table put putAt window step dot ones
+unfolding withdrawOutcome together tapsAnswer register.period seek some every many total sum table put putAt window step dot ones
 withdrawal-computed = (refl, refl)
 
-led : (run lent (call.start 2 3 2 ∷ []) ≡ began) × (run lent (call.enter 1 night-1 ∷ call.start 2 3 2 ∷ []) ≡ one-night)
+led : (run lent (call.start 2 3 2 ∷ []) ≡ began) × (run lent (call.enter 1 period night-1 ∷ call.start 2 3 2 ∷ []) ≡ one-night)
     × (run lent nights ≡ two-nights) × (run lent (call.withdraw 1 ∷ nights) ≡ one-left)
 unfolding run
 led =
     let a = start-computed .1 in
-    let b = ap (λ w. after w (call.enter 1 night-1)) a ∙ first-computed .1 in
-    let c = ap (λ w. after w (call.enter 2 night-2)) b ∙ second-computed .1 in
+    let b = ap (λ w. after w (call.enter 1 period night-1)) a ∙ first-computed .1 in
+    let c = ap (λ w. after w (call.enter 2 (capture 2) night-2)) b ∙ second-computed .1 in
     (a, b, c, ap (λ w. after w (call.withdraw 1)) c ∙ withdrawal-computed .1)
 
 pub witness : Witness
-unfolding startOutcome responseOutcome together tapsAnswer period seek some every many total sum sign table put nearest formula.response formula.correlation wave bit window step dot ones
+unfolding startOutcome responseOutcome together tapsAnswer register.period seek some every many total sum sign table put nearest formula.response formula.correlation wave bit window step dot ones
 witness =
     record {
       started = start-computed .0;
@@ -564,5 +647,5 @@ witness =
   where
     day : (d : ℕ) → 1 ≤ d → d ≤ 366 → made lent (call.withdraw 1 ∷ nights) d ≡ state (one-left .campaign) d
     day d a b =
-        sym (demand-3 lent 2 3 2 (start-computed .0) (call.withdraw 1 ∷ call.enter 2 night-2 ∷ call.enter 1 night-1 ∷ []) .each-day d a b)
+        sym (demand-3 lent 2 3 2 (start-computed .0) (call.withdraw 1 ∷ call.enter 2 (capture 2) night-2 ∷ call.enter 1 period night-1 ∷ []) .each-day d a b)
         ∙ ap (λ w. state (w .campaign) d) (led .3)

@@ -33,6 +33,8 @@ use Rattle.meter.proofs.campaigns.meter_start.Kinds as start-kinds
 use Rattle.meter.proofs.campaigns.meter_start.Reads as start
 use Rattle.meter.proofs.campaigns.meter_enter.Kinds as enter-kinds
 use Rattle.meter.proofs.campaigns.meter_enter.Reads as enter
+use Rattle.meter.proofs.campaigns.meter_capture.Kinds as capture-kinds
+use Rattle.meter.proofs.campaigns.meter_capture.Reads as capture
 use Rattle.meter.proofs.campaigns.meter_withdraw.Kinds as withdraw-kinds
 use Rattle.meter.proofs.campaigns.meter_withdraw.Reads as withdraw
 use Rattle.meter.proofs.campaigns.meter_counts.Kinds as counts-kinds
@@ -72,22 +74,28 @@ pub predict-in-room-determined : Determined 4 predict-in-room-kinds.ps predict-i
     (λ κs r s. ((r, now (s .1 .1 .1 .0), now (s .1 .1 .1 .1 .0)), now (s .1 .1 .1 .1 .1 .0)))
 predict-in-room-determined κs a x y s t p q = same-told (a .0) (a .1 .0) (now (a .1 .1 .1 .1 .1 .0)) (λ (o : ℕ × List ℤ × List ℤ). o .0) p q
 
-pub start-determined : Determined 5 start-kinds.ps start-kinds.r ((ℕ × List ℕ × List ℕ × List ℤ × List ℤ) × ℕ) start.Learnt
-    (λ κs r s. ((r, now (s .1 .1 .1 .0), now (s .1 .1 .1 .1 .0), now (s .1 .1 .1 .1 .1 .0), now (s .1 .1 .1 .1 .1 .1 .0)), now (s .1 .1 .1 .1 .1 .1 .1 .0)))
+pub start-determined : Determined 6 start-kinds.ps start-kinds.r ((ℕ × List ℕ × List ℕ × List ℕ × List ℤ × List ℤ) × ℕ) start.Learnt
+    (λ κs r s. ((r, now (s .1 .1 .1 .0), now (s .1 .1 .1 .1 .0), now (s .1 .1 .1 .1 .1 .0), now (s .1 .1 .1 .1 .1 .1 .0), now (s .1 .1 .1 .1 .1 .1 .1 .0)), now (s .1 .1 .1 .1 .1 .1 .1 .1 .0)))
 start-determined κs a x y s t p q =
-    same-told (a .0) (a .1 .0) (now (a .1 .1 .1 .1 .1 .1 .1 .0)) (λ (o : ℕ × List ℕ × List ℕ × List ℤ × List ℤ). o .0) p q
+    same-told (a .0) (a .1 .0) (now (a .1 .1 .1 .1 .1 .1 .1 .1 .0)) (λ (o : ℕ × List ℕ × List ℕ × List ℕ × List ℤ × List ℤ). o .0) p q
 
-pub enter-determined : Determined 7 enter-kinds.ps enter-kinds.r (ℕ × List ℕ × List ℕ × List ℤ × List ℤ × ℕ × ℕ) enter.Learnt (λ κs r s. (r, now (s .1 .1 .1 .0), now (s .1 .1 .1 .1 .0), now (s .1 .1 .1 .1 .1 .0), now (s .1 .1 .1 .1 .1 .1 .0), now (s .1 .1 .1 .1 .1 .1 .1 .1 .1 .0), now (s .1 .1 .1 .1 .1 .1 .1 .1 .1 .1 .0)))
+pub enter-determined : Determined 8 enter-kinds.ps enter-kinds.r (ℕ × List ℕ × List ℕ × List ℕ × List ℤ × List ℤ × ℕ × ℕ) enter.Learnt
+    (λ κs r s. (r, now (s .1 .1 .1 .0), now (s .1 .1 .1 .1 .0), now (s .1 .1 .1 .1 .1 .0), now (s .1 .1 .1 .1 .1 .1 .0), now (s .1 .1 .1 .1 .1 .1 .1 .0), now (s .1 .1 .1 .1 .1 .1 .1 .1 .1 .1 .0), now (s .1 .1 .1 .1 .1 .1 .1 .1 .1 .1 .1 .0)))
 enter-determined κs a x y s t p q = p ∙ sym q
 
-pub withdraw-determined : Determined 4 withdraw-kinds.ps withdraw-kinds.r (ℕ × List ℕ × List ℕ × List ℤ × List ℤ) withdraw.Learnt (λ κs r s. (r, now (s .1 .1 .1 .0), now (s .1 .1 .1 .1 .0), now (s .1 .1 .1 .1 .1 .0), now (s .1 .1 .1 .1 .1 .1 .0)))
+pub capture-determined : Determined 8 capture-kinds.ps capture-kinds.r (ℕ × List ℕ × List ℕ × List ℕ × List ℤ × List ℤ × ℕ × ℕ) capture.Learnt
+    (λ κs r s. (r, now (s .1 .1 .1 .0), now (s .1 .1 .1 .1 .0), now (s .1 .1 .1 .1 .1 .0), now (s .1 .1 .1 .1 .1 .1 .0), now (s .1 .1 .1 .1 .1 .1 .1 .0), now (s .1 .1 .1 .1 .1 .1 .1 .1 .1 .1 .1 .0), now (s .1 .1 .1 .1 .1 .1 .1 .1 .1 .1 .1 .1 .0)))
+capture-determined κs a x y s t p q = p ∙ sym q
+
+pub withdraw-determined : Determined 5 withdraw-kinds.ps withdraw-kinds.r (ℕ × List ℕ × List ℕ × List ℕ × List ℤ × List ℤ) withdraw.Learnt
+    (λ κs r s. (r, now (s .1 .1 .1 .0), now (s .1 .1 .1 .1 .0), now (s .1 .1 .1 .1 .1 .0), now (s .1 .1 .1 .1 .1 .1 .0), now (s .1 .1 .1 .1 .1 .1 .1 .0)))
 withdraw-determined κs a x y s t p q = p ∙ sym q
 
-pub counts-determined : Determined 9 counts-kinds.ps counts-kinds.r (ℕ × Tally) counts.Learnt (λ κs r s. (r, record { unseen = now (s .1 .1 .1 .1 .1 .1 .1 .0); standing = now (s .1 .1 .1 .1 .1 .1 .1 .1 .0); overloaded = now (s .1 .1 .1 .1 .1 .1 .1 .1 .1 .0); dead = now (s .1 .1 .1 .1 .1 .1 .1 .1 .1 .1 .0); withdrawn = now (s .1 .1 .1 .1 .1 .1 .1 .1 .1 .1 .1 .0) }))
+pub counts-determined : Determined 10 counts-kinds.ps counts-kinds.r (ℕ × Tally) counts.Learnt (λ κs r s. (r, record { unseen = now (s .1 .1 .1 .1 .1 .1 .1 .1 .0); standing = now (s .1 .1 .1 .1 .1 .1 .1 .1 .1 .0); overloaded = now (s .1 .1 .1 .1 .1 .1 .1 .1 .1 .1 .0); dead = now (s .1 .1 .1 .1 .1 .1 .1 .1 .1 .1 .1 .0); withdrawn = now (s .1 .1 .1 .1 .1 .1 .1 .1 .1 .1 .1 .1 .0) }))
 counts-determined κs a x y s t p q = p ∙ sym q
 
-pub response-determined : Determined 8 response-kinds.ps response-kinds.r (ℕ × List ℤ × List ℤ × List ℤ × List ℕ) response.Learnt (λ κs r s. (r, now (s .1 .1 .1 .1 .1 .1 .1 .0), now (s .1 .1 .1 .1 .1 .1 .1 .1 .0), now (s .1 .1 .1 .1 .1 .1 .1 .1 .1 .0), now (s .1 .1 .1 .1 .1 .1 .1 .1 .1 .1 .0)))
+pub response-determined : Determined 9 response-kinds.ps response-kinds.r (ℕ × List ℤ × List ℤ × List ℤ × List ℕ) response.Learnt (λ κs r s. (r, now (s .1 .1 .1 .1 .1 .1 .1 .1 .0), now (s .1 .1 .1 .1 .1 .1 .1 .1 .1 .0), now (s .1 .1 .1 .1 .1 .1 .1 .1 .1 .1 .0), now (s .1 .1 .1 .1 .1 .1 .1 .1 .1 .1 .1 .0)))
 response-determined κs a x y s t p q = p ∙ sym q
 
-pub summary-determined : Determined 10 summary-kinds.ps summary-kinds.r (ℕ × List ℤ × List ℕ × ℕ × Levels) summary.Learnt (λ κs r s. (r, now (s .1 .1 .1 .1 .1 .1 .1 .0), now (s .1 .1 .1 .1 .1 .1 .1 .1 .0), now (s .1 .1 .1 .1 .1 .1 .1 .1 .1 .0), record { highest = now (s .1 .1 .1 .1 .1 .1 .1 .1 .1 .1 .0); lowest = now (s .1 .1 .1 .1 .1 .1 .1 .1 .1 .1 .1 .0); peak = now (s .1 .1 .1 .1 .1 .1 .1 .1 .1 .1 .1 .1 .0) }))
+pub summary-determined : Determined 11 summary-kinds.ps summary-kinds.r (ℕ × List ℤ × List ℕ × ℕ × Levels) summary.Learnt (λ κs r s. (r, now (s .1 .1 .1 .1 .1 .1 .1 .1 .0), now (s .1 .1 .1 .1 .1 .1 .1 .1 .1 .0), now (s .1 .1 .1 .1 .1 .1 .1 .1 .1 .1 .0), record { highest = now (s .1 .1 .1 .1 .1 .1 .1 .1 .1 .1 .1 .0); lowest = now (s .1 .1 .1 .1 .1 .1 .1 .1 .1 .1 .1 .1 .0); peak = now (s .1 .1 .1 .1 .1 .1 .1 .1 .1 .1 .1 .1 .1 .0) }))
 summary-determined κs a x y s t p q = p ∙ sym q

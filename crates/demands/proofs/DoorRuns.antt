@@ -13,6 +13,7 @@ use Rattle.sums.specs.Refusals.{first, answered}
 use Rattle.register.specs.Register.{P}
 use Rattle.register.specs.Calls.{answerOf}
 use Rattle.samples.specs.Samples.{clearedWide}
+use Rattle.nights.specs.declared.Night.{Night}
 use Rattle.records.specs.Record.{fresh}
 use Rattle.records.specs.declared.Campaign.{Campaign}
 use Rattle.campaign.specs.Calls.{startChecks, startOutcome, enterOutcome, withdrawOutcome}
@@ -35,37 +36,37 @@ abbrev Follows : Lent → DoorCall → Type 0
 Follows l c =
     (worldOf (doorAfter l c) ≡ after (worldOf l) (behindDoor c))
     × (doorAnswer l c ≡ answer (worldOf l) (behindDoor c))
-    × Long (doorAfter l c .days) (doorAfter l c .slots)
+    × Long (doorAfter l c .days) (doorAfter l c .slots) (doorAfter l c .periods)
 
 abbrev worldWith : Campaign → List ℤ → List ℤ → World
 worldWith c store sums = record { campaign = c; store = store; sums = sums }
 
-module _ (l : Lent) (t : Long (l .days) (l .slots)) where
-  open-tables : tablesShort (l .days) (l .slots) ≡ false
-  open-tables = simp (le-ltb (length (l .days)) 366 (t .days), le-ltb (length (l .slots)) 64 (t .slots))
+module _ (l : Lent) (t : Long (l .days) (l .slots) (l .periods)) where
+  open-tables : tablesShort (l .days) (l .slots) (l .periods) ≡ false
+  open-tables = simp (le-ltb (length (l .days)) 366 (t .days), le-ltb (length (l .slots)) 64 (t .slots), le-ltb (length (l .periods)) 64 (t .periods))
 
   abbrev mine : Campaign
-  mine = recordOf (l .order) (l .taps) (l .capacity) (l .days) (l .slots)
+  mine = recordOf (l .order) (l .taps) (l .capacity) (l .days) (l .slots) (l .periods)
 
-  enter-opened : (d : ℕ) (y : List ℤ) (state value : ℕ) → enterDoor (l .order) (l .taps) (l .capacity) (l .days) (l .slots) (l .store) (l .sums) d y state value
-      ≡ enteredOut (l .days) (l .slots) state value (enterOutcome mine (l .store) (l .sums) d y)
+  enter-opened : (d : ℕ) (night : Night) (y : List ℤ) (state value : ℕ) → enterDoor (l .order) (l .taps) (l .capacity) (l .days) (l .slots) (l .periods) (l .store) (l .sums) d night y state value
+      ≡ enteredOut (l .days) (l .slots) (l .periods) state value (enterOutcome mine (l .store) (l .sums) d night y)
   unfolding enterDoor
-  enter-opened d y state value = sym (opens (l .days) (l .slots) _ _ open-tables)
+  enter-opened d night y state value = sym (opens (l .days) (l .slots) (l .periods) _ _ open-tables)
 
-  withdraw-opened : (d : ℕ) → withdrawDoor (l .order) (l .taps) (l .capacity) (l .days) (l .slots) (l .store) (l .sums) d
-      ≡ withdrawnOut (l .days) (l .slots) (withdrawOutcome mine (l .store) (l .sums) d)
+  withdraw-opened : (d : ℕ) → withdrawDoor (l .order) (l .taps) (l .capacity) (l .days) (l .slots) (l .periods) (l .store) (l .sums) d
+      ≡ withdrawnOut (l .days) (l .slots) (l .periods) (withdrawOutcome mine (l .store) (l .sums) d)
   unfolding withdrawDoor
-  withdraw-opened d = sym (opens (l .days) (l .slots) _ _ open-tables)
+  withdraw-opened d = sym (opens (l .days) (l .slots) (l .periods) _ _ open-tables)
 
-  follows-enter : (d : ℕ) (y : List ℤ) (state value : ℕ) → Follows l (enter d y state value)
-  follows-enter d y state value =
-      let o = enterOutcome mine (l .store) (l .sums) d y in
-      let h = enter-handed mine (l .store) (l .sums) d y in
-      let e = enter-opened d y state value in (
-        ap (λ (x : ℕ × List ℕ × List ℕ × List ℤ × List ℤ × ℕ × ℕ). worldOf (holds l (x .1) (x .2) (x .3) (x .4))) e
-            ∙ ap (λ c. worldWith c (o .1) (o .2)) (back-in (l .order) (l .taps) (l .capacity) (l .days) (l .slots) t (o .0 .campaign) h),
-        ap (λ (x : ℕ × List ℕ × List ℕ × List ℤ × List ℤ × ℕ × ℕ). x .0) e,
-        subst (λ (x : ℕ × List ℕ × List ℕ × List ℤ × List ℤ × ℕ × ℕ). Long (x .1) (x .2)) (sym e) (still-long (l .order) (l .taps) (l .capacity) (l .days) (l .slots) t (o .0 .campaign) h),
+  follows-enter : (d : ℕ) (night : Night) (y : List ℤ) (state value : ℕ) → Follows l (enter d night y state value)
+  follows-enter d night y state value =
+      let o = enterOutcome mine (l .store) (l .sums) d night y in
+      let h = enter-handed mine (l .store) (l .sums) d night y in
+      let e = enter-opened d night y state value in (
+        ap (λ (x : ℕ × List ℕ × List ℕ × List ℕ × List ℤ × List ℤ × ℕ × ℕ). worldOf (holds l (x .1) (x .2) (x .3) (x .4) (x .5))) e
+            ∙ ap (λ c. worldWith c (o .1) (o .2)) (back-in (l .order) (l .taps) (l .capacity) (l .days) (l .slots) (l .periods) t (o .0 .campaign) h),
+        ap (λ (x : ℕ × List ℕ × List ℕ × List ℕ × List ℤ × List ℤ × ℕ × ℕ). x .0) e,
+        subst (λ (x : ℕ × List ℕ × List ℕ × List ℕ × List ℤ × List ℤ × ℕ × ℕ). Long (x .1) (x .2) (x .3)) (sym e) (still-long (l .order) (l .taps) (l .capacity) (l .days) (l .slots) (l .periods) t (o .0 .campaign) h),
       )
 
   follows-withdraw : (d : ℕ) → Follows l (withdraw d)
@@ -73,15 +74,15 @@ module _ (l : Lent) (t : Long (l .days) (l .slots)) where
       let o = withdrawOutcome mine (l .store) (l .sums) d in
       let h = withdraw-handed mine (l .store) (l .sums) d in
       let e = withdraw-opened d in (
-        ap (λ (x : ℕ × List ℕ × List ℕ × List ℤ × List ℤ). worldOf (holds l (x .1) (x .2) (x .3) (x .4))) e
-            ∙ ap (λ c. worldWith c (o .1) (o .2)) (back-in (l .order) (l .taps) (l .capacity) (l .days) (l .slots) t (o .0 .campaign) h),
-        ap (λ (x : ℕ × List ℕ × List ℕ × List ℤ × List ℤ). x .0) e,
-        subst (λ (x : ℕ × List ℕ × List ℕ × List ℤ × List ℤ). Long (x .1) (x .2)) (sym e) (still-long (l .order) (l .taps) (l .capacity) (l .days) (l .slots) t (o .0 .campaign) h),
+        ap (λ (x : ℕ × List ℕ × List ℕ × List ℕ × List ℤ × List ℤ). worldOf (holds l (x .1) (x .2) (x .3) (x .4) (x .5))) e
+            ∙ ap (λ c. worldWith c (o .1) (o .2)) (back-in (l .order) (l .taps) (l .capacity) (l .days) (l .slots) (l .periods) t (o .0 .campaign) h),
+        ap (λ (x : ℕ × List ℕ × List ℕ × List ℕ × List ℤ × List ℤ). x .0) e,
+        subst (λ (x : ℕ × List ℕ × List ℕ × List ℕ × List ℤ × List ℤ). Long (x .1) (x .2) (x .3)) (sym e) (still-long (l .order) (l .taps) (l .capacity) (l .days) (l .slots) (l .periods) t (o .0 .campaign) h),
       )
 
   -- a start: refused, the caller goes on with the numbers that it has; accepted, with those that it gave
   module _ (N taps C : ℕ) where
-    fresh-handed : Handed (recordOf N taps C (l .days) (l .slots)) (fresh N taps C)
+    fresh-handed : Handed (recordOf N taps C (l .days) (l .slots) (l .periods)) (fresh N taps C)
     fresh-handed =
         record {
           order = refl;
@@ -89,25 +90,26 @@ module _ (l : Lent) (t : Long (l .days) (l .slots)) where
           capacity = refl;
           days = length-replicate {A = ℕ} 366 0 ∙ sym (length-take-le 366 (l .days) (t .days));
           slots = length-replicate {A = ℕ} 64 0 ∙ sym (length-take-le 64 (l .slots) (t .slots));
+          periods = length-replicate {A = ℕ} 64 0 ∙ sym (length-take-le 64 (l .periods) (t .periods));
         }
 
-    abbrev kept : ℕ → ℕ × List ℕ × List ℕ × List ℤ × List ℤ
-    kept n = (n, l .days, l .slots, l .store, l .sums)
+    abbrev kept : ℕ → ℕ × List ℕ × List ℕ × List ℕ × List ℤ × List ℤ
+    kept n = (n, l .days, l .slots, l .periods, l .store, l .sums)
 
-    abbrev made : ℕ × List ℕ × List ℕ × List ℤ × List ℤ
-    made = (0, put (fresh N taps C .days) (l .days), put (fresh N taps C .slots) (l .slots), clearedWide (C * P N) (l .store), clearedWide (P N) (l .sums))
+    abbrev made : ℕ × List ℕ × List ℕ × List ℕ × List ℤ × List ℤ
+    made = (0, put (fresh N taps C .days) (l .days), put (fresh N taps C .slots) (l .slots), put (fresh N taps C .periods) (l .periods), clearedWide (C * P N) (l .store), clearedWide (P N) (l .sums))
 
-    start-opened : startDoor N taps C (l .days) (l .slots) (l .store) (l .sums) ≡ answered (first (startChecks N taps C (l .store) (l .sums))) kept made
+    start-opened : startDoor N taps C (l .days) (l .slots) (l .periods) (l .store) (l .sums) ≡ answered (first (startChecks N taps C (l .store) (l .sums))) kept made
     unfolding startDoor
-    start-opened = ap (λ n. answered n kept made) (long-checks N taps C (l .days) (l .slots) (l .store) (l .sums) open-tables)
+    start-opened = ap (λ n. answered n kept made) (long-checks N taps C (l .days) (l .slots) (l .periods) (l .store) (l .sums) open-tables)
 
     by-answer : (n : ℕ) → let o = answered n kept made in
         let k = answered {A = Started × List ℤ × List ℤ} n (λ n. (record { answer = answerOf N taps n; campaign = mine }, l .store, l .sums)) (record { answer = answerOf N taps 0; campaign = fresh N taps C }, clearedWide (C * P N) (l .store), clearedWide (P N) (l .sums)) in
-        (worldOf (begins l N taps C o) ≡ worldWith (k .0 .campaign) (k .1) (k .2)) × (o .0 ≡ k .0 .answer .number) × Long (o .1) (o .2)
+        (worldOf (begins l N taps C o) ≡ worldWith (k .0 .campaign) (k .1) (k .2)) × (o .0 ≡ k .0 .answer .number) × Long (o .1) (o .2) (o .3)
     by-answer zero = (
-      ap (λ c. worldWith c (clearedWide (C * P N) (l .store)) (clearedWide (P N) (l .sums))) (back-in N taps C (l .days) (l .slots) t (fresh N taps C) fresh-handed),
+      ap (λ c. worldWith c (clearedWide (C * P N) (l .store)) (clearedWide (P N) (l .sums))) (back-in N taps C (l .days) (l .slots) (l .periods) t (fresh N taps C) fresh-handed),
       refl,
-      still-long N taps C (l .days) (l .slots) t (fresh N taps C) fresh-handed,
+      still-long N taps C (l .days) (l .slots) (l .periods) t (fresh N taps C) fresh-handed,
     )
     by-answer (suc n) = (refl, refl, t)
 
@@ -115,32 +117,32 @@ module _ (l : Lent) (t : Long (l .days) (l .slots)) where
     unfolding startOutcome
     follows-start =
         let b = by-answer (first (startChecks N taps C (l .store) (l .sums))) in (
-          ap (λ (x : ℕ × List ℕ × List ℕ × List ℤ × List ℤ). worldOf (begins l N taps C x)) start-opened ∙ b .0,
-          ap (λ (x : ℕ × List ℕ × List ℕ × List ℤ × List ℤ). x .0) start-opened ∙ b .1,
-          subst (λ (x : ℕ × List ℕ × List ℕ × List ℤ × List ℤ). Long (x .1) (x .2)) (sym start-opened) (b .2),
+          ap (λ (x : ℕ × List ℕ × List ℕ × List ℕ × List ℤ × List ℤ). worldOf (begins l N taps C x)) start-opened ∙ b .0,
+          ap (λ (x : ℕ × List ℕ × List ℕ × List ℕ × List ℤ × List ℤ). x .0) start-opened ∙ b .1,
+          subst (λ (x : ℕ × List ℕ × List ℕ × List ℕ × List ℤ × List ℤ). Long (x .1) (x .2) (x .3)) (sym start-opened) (b .2),
         )
 
   -- the calls that only ask
-  counts-opened : (was : Tally) → countsDoor (l .order) (l .taps) (l .capacity) (l .days) (l .slots) (l .store) (l .sums) was
+  counts-opened : (was : Tally) → countsDoor (l .order) (l .taps) (l .capacity) (l .days) (l .slots) (l .periods) (l .store) (l .sums) was
       ≡ countedOut was (countsOutcome mine (l .store) (l .sums))
   unfolding countsDoor
-  counts-opened was = sym (opens (l .days) (l .slots) _ _ open-tables)
+  counts-opened was = sym (opens (l .days) (l .slots) (l .periods) _ _ open-tables)
 
   response-opened : (r mean room : List ℤ) (tags : List ℕ)
-      → responseDoor (l .order) (l .taps) (l .capacity) (l .days) (l .slots) (l .store) (l .sums) r mean room tags
+      → responseDoor (l .order) (l .taps) (l .capacity) (l .days) (l .slots) (l .periods) (l .store) (l .sums) r mean room tags
       ≡ responseOutcome mine (l .store) (l .sums) r mean room tags
   unfolding responseDoor
-  response-opened r mean room tags = sym (opens (l .days) (l .slots) _ _ open-tables)
+  response-opened r mean room tags = sym (opens (l .days) (l .slots) (l .periods) _ _ open-tables)
 
   summary-opened : (room : List ℤ) (tags : List ℕ) (stood : ℕ) (was : Levels)
-      → summaryDoor (l .order) (l .taps) (l .capacity) (l .days) (l .slots) (l .store) (l .sums) room tags stood was
+      → summaryDoor (l .order) (l .taps) (l .capacity) (l .days) (l .slots) (l .periods) (l .store) (l .sums) room tags stood was
       ≡ summedOut stood was (summaryOutcome mine (l .store) (l .sums) room tags)
   unfolding summaryDoor
-  summary-opened room tags stood was = sym (opens (l .days) (l .slots) _ _ open-tables)
+  summary-opened room tags stood was = sym (opens (l .days) (l .slots) (l .periods) _ _ open-tables)
 
   follows : (c : DoorCall) → Follows l c
   follows (start N taps C) = follows-start N taps C
-  follows (enter d y state value) = follows-enter d y state value
+  follows (enter d night y state value) = follows-enter d night y state value
   follows (withdraw d) = follows-withdraw d
   follows (counts was) = (refl, ap (λ (o : ℕ × Tally). o .0) (counts-opened was), t)
   follows (response r mean room tags) = (refl, ap (λ (o : ℕ × List ℤ × List ℤ × List ℤ × List ℕ). o .0) (response-opened r mean room tags), t)
@@ -152,9 +154,9 @@ module _ (l : Lent) (t : Long (l .days) (l .slots)) where
 pub record AsRun (l : Lent) (cs : List DoorCall) : Type 0 where
   pub world : worldOf (doorRun l cs) ≡ run (worldOf l) (behindDoors cs)
   pub says : (c : DoorCall) → doorAnswer (doorRun l cs) c ≡ answer (run (worldOf l) (behindDoors cs)) (behindDoor c)
-  pub tables : Long (doorRun l cs .days) (doorRun l cs .slots)
+  pub tables : Long (doorRun l cs .days) (doorRun l cs .slots) (doorRun l cs .periods)
 
-pub as-run : (l : Lent) → Long (l .days) (l .slots) → (cs : List DoorCall) → AsRun l cs
+pub as-run : (l : Lent) → Long (l .days) (l .slots) (l .periods) → (cs : List DoorCall) → AsRun l cs
 unfolding doorRun run behindDoors
 as-run l t [] = record { world = refl; says = λ c. follows l t c .1; tables = t }
 as-run l t (c ∷ cs) =
@@ -174,13 +176,13 @@ pub record DoorSaid (l : Lent) (cs : List DoorCall) : Type 0 where
   pub no-fifteen : (c : DoorCall) → doorAnswer (doorRun l cs) c ≡ 15 → ⊥
   -- the doors that only ask answer as the calls do
   pub counts : (was : Tally) → let h = doorRun l cs in let w = worldOf h in
-      countsDoor (h .order) (h .taps) (h .capacity) (h .days) (h .slots) (h .store) (h .sums) was
+      countsDoor (h .order) (h .taps) (h .capacity) (h .days) (h .slots) (h .periods) (h .store) (h .sums) was
       ≡ countedOut was (countsOutcome (w .campaign) (w .store) (w .sums))
   pub response : (r mean room : List ℤ) (tags : List ℕ) → let h = doorRun l cs in let w = worldOf h in
-      responseDoor (h .order) (h .taps) (h .capacity) (h .days) (h .slots) (h .store) (h .sums) r mean room tags
+      responseDoor (h .order) (h .taps) (h .capacity) (h .days) (h .slots) (h .periods) (h .store) (h .sums) r mean room tags
       ≡ responseOutcome (w .campaign) (w .store) (w .sums) r mean room tags
   pub summary : (room : List ℤ) (tags : List ℕ) (stood : ℕ) (was : Levels) → let h = doorRun l cs in let w = worldOf h in
-      summaryDoor (h .order) (h .taps) (h .capacity) (h .days) (h .slots) (h .store) (h .sums) room tags stood was
+      summaryDoor (h .order) (h .taps) (h .capacity) (h .days) (h .slots) (h .periods) (h .store) (h .sums) room tags stood was
       ≡ summedOut stood was (summaryOutcome (w .campaign) (w .store) (w .sums) room tags)
 
 appended : (cs before : List DoorCall) → behindDoors (cs ++ before) ≡ behindDoors cs ++ behindDoors before
@@ -188,7 +190,7 @@ unfolding behindDoors
 appended [] before = refl
 appended (c ∷ cs) before = ap (λ t. behindDoor c ∷ t) (appended cs before)
 
-pub door-demand-3 : (l : Lent) (N taps C : ℕ) → startDoor N taps C (l .days) (l .slots) (l .store) (l .sums) .0 ≡ 0
+pub door-demand-3 : (l : Lent) (N taps C : ℕ) → startDoor N taps C (l .days) (l .slots) (l .periods) (l .store) (l .sums) .0 ≡ 0
     → (cs : List DoorCall) → DoorSaid l (cs ++ start N taps C ∷ [])
 unfolding behindDoors
 door-demand-3 l N taps C e cs =
@@ -204,8 +206,8 @@ door-demand-3 l N taps C e cs =
     all : List DoorCall
     all = cs ++ start N taps C ∷ []
 
-    long : Long (l .days) (l .slots)
-    long = let h = started-long N taps C (l .days) (l .slots) (l .store) (l .sums) e in record { days = h .0; slots = h .1 }
+    long : Long (l .days) (l .slots) (l .periods)
+    long = let h = started-long N taps C (l .days) (l .slots) (l .periods) (l .store) (l .sums) e in record { days = h .0; slots = h .1; periods = h .2 }
 
     s : AsRun l (cs ++ start N taps C ∷ [])
     s = as-run l long (cs ++ start N taps C ∷ [])

@@ -17,10 +17,13 @@ use Rattle.register.specs.Register.{P}
 use Rattle.register.specs.Calls.{sequenceChecks, sequenceOutcome}
 use Rattle.response.specs.Calls.{recordingChecks, recordingOutcome}
 use Rattle.prediction.specs.Calls.{predictionChecks, predictionOutcome, roomedChecks, roomedOutcome}
+use Rattle.nights.specs.Nights.{periodsOf}
+use Rattle.nights.specs.declared.Night.{Night}
+use Rattle.nights.proofs.Terms.{term-long}
 use Rattle.records.specs.Record.{standing, daysIn, base, together}
 use Rattle.records.specs.declared.Campaign.{Campaign}
 use Rattle.records.proofs.Holding.{holds-together}
-use Rattle.campaign.specs.Calls.{startChecks, startOutcome, entered, enterOutcome, withdrawOutcome}
+use Rattle.campaign.specs.Calls.{startChecks, startOutcome, settledOf, termOf, entered, enterOutcome, withdrawOutcome}
 use Rattle.campaign.specs.declared.Started.{Started}
 use Rattle.campaign.specs.declared.Verdict.the-variants as verdict
 use Rattle.trend.specs.Calls.{responseChecks, responseOutcome, summaryChecks, summaryOutcome}
@@ -145,30 +148,33 @@ same-tails c store sums store′ sums′ e g = (same e, same g)
 abbrev world : Campaign → List ℤ → List ℤ → World
 world c store sums = record { campaign = c; store = store; sums = sums }
 
-enter-apart : (c : Campaign) (store sums : List ℤ) (d : ℕ) (y : List ℤ) → together c store sums ≡ false
-    → enterOutcome c store sums d y ≡ (entered c d (verdict.Refused 15), store, sums)
+enter-apart : (c : Campaign) (store sums : List ℤ) (d : ℕ) (night : Night) (y : List ℤ) → together c store sums ≡ false
+    → enterOutcome c store sums d night y ≡ (entered c d (verdict.Refused 15), store, sums)
 unfolding enterOutcome
-enter-apart c store sums d y t = rw t refl
+enter-apart c store sums d night y t = rw t refl
 
 withdraw-apart : (c : Campaign) (store sums : List ℤ) (d : ℕ) → together c store sums ≡ false
     → withdrawOutcome c store sums d ≡ (record { answer = 15; campaign = c }, store, sums)
 unfolding withdrawOutcome
 withdraw-apart c store sums d t = rw t refl
 
-pub enter-tails : (c : Campaign) (store sums : List ℤ) (d : ℕ) (y : List ℤ) → let o = enterOutcome c store sums d y in
+pub enter-tails : (c : Campaign) (store sums : List ℤ) (d : ℕ) (night : Night) (y : List ℤ) → let o = enterOutcome c store sums d night y in
     KeepsTail (c .capacity * P (c .order)) store (o .1) × KeepsTail (P (c .order)) sums (o .2)
-enter-tails c store sums d y = by-together (together c store sums) refl
+enter-tails c store sums d night y = by-together (together c store sums) refl
   where
-    by-steps : together c store sums ≡ true → Entering (world c store sums) d y (enterOutcome c store sums d y)
-        → Both c store sums (enterOutcome c store sums d y .1) (enterOutcome c store sums d y .2)
+    by-steps : together c store sums ≡ true → Entering (world c store sums) d night y (enterOutcome c store sums d night y)
+        → Both c store sums (enterOutcome c store sums d night y .1) (enterOutcome c store sums d night y .2)
     by-steps t (steps.refused n e g i) = same-tails c store sums _ _ g i
     by-steps t (steps.aside q b v n l r f e g i) = same-tails c store sums _ _ g i
-    by-steps t (steps.kept k b v r n l f long good e g i) =
-        rw (g, i) (slot-tail c store k l y long (holds-together c store sums .0 t .store-long), written _ _ _)
+    by-steps t (steps.kept k b v r n l f least most good e g i) =
+        rw (g, i) (
+          slot-tail c store k l (termOf c night y) (term-long (P (c .order)) (periodsOf night) (settledOf c night y)) (holds-together c store sums .0 t .store-long),
+          written _ _ _,
+        )
 
-    by-together : (b : Bool) → together c store sums ≡ b → Both c store sums (enterOutcome c store sums d y .1) (enterOutcome c store sums d y .2)
-    by-together true t = by-steps t (entering (world c store sums) d y t)
-    by-together false t = same-tails c store sums _ _ (ap (λ o. o .1) (enter-apart c store sums d y t)) (ap (λ o. o .2) (enter-apart c store sums d y t))
+    by-together : (b : Bool) → together c store sums ≡ b → Both c store sums (enterOutcome c store sums d night y .1) (enterOutcome c store sums d night y .2)
+    by-together true t = by-steps t (entering (world c store sums) d night y t)
+    by-together false t = same-tails c store sums _ _ (ap (λ o. o .1) (enter-apart c store sums d night y t)) (ap (λ o. o .2) (enter-apart c store sums d night y t))
 
 pub withdraw-tails : (c : Campaign) (store sums : List ℤ) (d : ℕ) → let o = withdrawOutcome c store sums d in
     KeepsTail (c .capacity * P (c .order)) store (o .1) × KeepsTail (P (c .order)) sums (o .2)

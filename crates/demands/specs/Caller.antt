@@ -4,6 +4,7 @@ use mathlib.Core.List.{List, [], _∷_}
 use Prim.Native.Nat.{ℕ}
 use lib.IntN.{ℤ}
 use Rattle.sums.specs.Refusals.{answered}
+use Rattle.nights.specs.declared.Night.{Night}
 use Rattle.trend.specs.declared.Tally.{Tally}
 use Rattle.trend.specs.declared.Levels.{Levels}
 use Rattle.history.specs.Run.{World, Call}
@@ -17,56 +18,58 @@ pub record Lent : Type 0 where
   pub capacity : ℕ
   pub days : List ℕ
   pub slots : List ℕ
+  pub periods : List ℕ
   pub store : List ℤ
   pub sums : List ℤ
 
--- a call of the door, with what the caller lends for its answers
+-- a call of the door, with what the caller lends for its answers; `meter_enter` enters a night of one period, `meter_capture` a capture
 pub data DoorCall : Type 0 where
   start : ℕ → ℕ → ℕ → DoorCall
-  enter : ℕ → List ℤ → ℕ → ℕ → DoorCall
+  enter : ℕ → Night → List ℤ → ℕ → ℕ → DoorCall
   withdraw : ℕ → DoorCall
   counts : Tally → DoorCall
   response : List ℤ → List ℤ → List ℤ → List ℕ → DoorCall
   summary : List ℤ → List ℕ → ℕ → Levels → DoorCall
 
 -- what it holds after a start, and after an entry or a withdrawal
-abbrev pub begins : Lent → ℕ → ℕ → ℕ → ℕ × List ℕ × List ℕ × List ℤ × List ℤ → Lent
-begins l N taps C (n, days, slots, store, sums) =
+abbrev pub begins : Lent → ℕ → ℕ → ℕ → ℕ × List ℕ × List ℕ × List ℕ × List ℤ × List ℤ → Lent
+begins l N taps C (n, days, slots, periods, store, sums) =
     record {
       order = answered n (λ _. l .order) N;
       taps = answered n (λ _. l .taps) taps;
       capacity = answered n (λ _. l .capacity) C;
       days = days;
       slots = slots;
+      periods = periods;
       store = store;
       sums = sums;
     }
 
-abbrev pub holds : Lent → List ℕ → List ℕ → List ℤ → List ℤ → Lent
-holds l days slots store sums =
-    record { order = l .order; taps = l .taps; capacity = l .capacity; days = days; slots = slots; store = store; sums = sums }
+abbrev pub holds : Lent → List ℕ → List ℕ → List ℕ → List ℤ → List ℤ → Lent
+holds l days slots periods store sums =
+    record { order = l .order; taps = l .taps; capacity = l .capacity; days = days; slots = slots; periods = periods; store = store; sums = sums }
 
 abbrev pub doorAfter : Lent → DoorCall → Lent
-doorAfter l (start N taps C) = begins l N taps C (startDoor N taps C (l .days) (l .slots) (l .store) (l .sums))
-doorAfter l (enter d y state value) =
-    let o = enterDoor (l .order) (l .taps) (l .capacity) (l .days) (l .slots) (l .store) (l .sums) d y state value in
-    holds l (o .1) (o .2) (o .3) (o .4)
+doorAfter l (start N taps C) = begins l N taps C (startDoor N taps C (l .days) (l .slots) (l .periods) (l .store) (l .sums))
+doorAfter l (enter d night y state value) =
+    let o = enterDoor (l .order) (l .taps) (l .capacity) (l .days) (l .slots) (l .periods) (l .store) (l .sums) d night y state value in
+    holds l (o .1) (o .2) (o .3) (o .4) (o .5)
 doorAfter l (withdraw d) =
-    let o = withdrawDoor (l .order) (l .taps) (l .capacity) (l .days) (l .slots) (l .store) (l .sums) d in
-    holds l (o .1) (o .2) (o .3) (o .4)
+    let o = withdrawDoor (l .order) (l .taps) (l .capacity) (l .days) (l .slots) (l .periods) (l .store) (l .sums) d in
+    holds l (o .1) (o .2) (o .3) (o .4) (o .5)
 doorAfter l (counts was) = l
 doorAfter l (response r mean room tags) = l
 doorAfter l (summary room tags stood was) = l
 
 -- the number that the door answers
 abbrev pub doorAnswer : Lent → DoorCall → ℕ
-doorAnswer l (start N taps C) = startDoor N taps C (l .days) (l .slots) (l .store) (l .sums) .0
-doorAnswer l (enter d y state value) = enterDoor (l .order) (l .taps) (l .capacity) (l .days) (l .slots) (l .store) (l .sums) d y state value .0
-doorAnswer l (withdraw d) = withdrawDoor (l .order) (l .taps) (l .capacity) (l .days) (l .slots) (l .store) (l .sums) d .0
-doorAnswer l (counts was) = countsDoor (l .order) (l .taps) (l .capacity) (l .days) (l .slots) (l .store) (l .sums) was .0
-doorAnswer l (response r mean room tags) = responseDoor (l .order) (l .taps) (l .capacity) (l .days) (l .slots) (l .store) (l .sums) r mean room tags .0
+doorAnswer l (start N taps C) = startDoor N taps C (l .days) (l .slots) (l .periods) (l .store) (l .sums) .0
+doorAnswer l (enter d night y state value) = enterDoor (l .order) (l .taps) (l .capacity) (l .days) (l .slots) (l .periods) (l .store) (l .sums) d night y state value .0
+doorAnswer l (withdraw d) = withdrawDoor (l .order) (l .taps) (l .capacity) (l .days) (l .slots) (l .periods) (l .store) (l .sums) d .0
+doorAnswer l (counts was) = countsDoor (l .order) (l .taps) (l .capacity) (l .days) (l .slots) (l .periods) (l .store) (l .sums) was .0
+doorAnswer l (response r mean room tags) = responseDoor (l .order) (l .taps) (l .capacity) (l .days) (l .slots) (l .periods) (l .store) (l .sums) r mean room tags .0
 doorAnswer l (summary room tags stood was) =
-    summaryDoor (l .order) (l .taps) (l .capacity) (l .days) (l .slots) (l .store) (l .sums) room tags stood was .0
+    summaryDoor (l .order) (l .taps) (l .capacity) (l .days) (l .slots) (l .periods) (l .store) (l .sums) room tags stood was .0
 
 -- a sequence of calls, the latest first
 unfoldable pub doorRun : Lent → List DoorCall → Lent
@@ -75,11 +78,11 @@ doorRun l (c ∷ earlier) = doorAfter (doorRun l earlier) c
 
 -- the world that the caller lends, and the library's call behind the door
 abbrev pub worldOf : Lent → World
-worldOf l = record { campaign = recordOf (l .order) (l .taps) (l .capacity) (l .days) (l .slots); store = l .store; sums = l .sums }
+worldOf l = record { campaign = recordOf (l .order) (l .taps) (l .capacity) (l .days) (l .slots) (l .periods); store = l .store; sums = l .sums }
 
 abbrev pub behindDoor : DoorCall → Call
 behindDoor (start N taps C) = call.start N taps C
-behindDoor (enter d y state value) = call.enter d y
+behindDoor (enter d night y state value) = call.enter d night y
 behindDoor (withdraw d) = call.withdraw d
 behindDoor (counts was) = call.counts
 behindDoor (response r mean room tags) = call.response r mean room tags

@@ -1,11 +1,14 @@
 // The scan for a rail.
 use crate::Rail;
 use samples::range::at_rail;
+use samples::range::least_of;
+use samples::range::most_of;
+use samples::range::some_beyond;
 ghost use mathlib.Core.Path.{_≡_};
 ghost use Rattle.finding.specs.Finding.{railOf};
 
 // The first place at a rail, or none.
-pub fn first_rail(y: &[i32]) -> Rail
+fn first_rail(y: &[i32]) -> Rail
     ensures { λ r. ⌜ r ≡ railOf (now (y .entry)) ⌝ }
 {
     let n = y.len();
@@ -20,4 +23,14 @@ pub fn first_rail(y: &[i32]) -> Rail
         j += 1;
     };
     found
+}
+
+// The same, asked of all samples at once first, so that a recording at no rail is not gone through one by one.
+pub fn find_rail(y: &[i32]) -> Rail
+    ensures { λ r. ⌜ r ≡ railOf (now (y .entry)) ⌝ }
+{
+    if some_beyond(least_of(1), most_of(1), y) {
+        return first_rail(y);
+    }
+    Rail::Clear
 }

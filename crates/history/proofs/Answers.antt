@@ -66,8 +66,8 @@ module _ (w : World) (t : together (w .campaign) (w .store) (w .sums) ≡ true) 
       (λ n. (record { answer = answerOf N taps n; campaign = w .campaign }, w .store, w .sums))
       (record { answer = answerOf N taps 0; campaign = fresh N taps C }, clearedWide (C * P N) (w .store), clearedWide (P N) (w .sums)) (λ o. o .0 .answer .number ≡ 15 → ⊥)
       (λ n _ h g. not-first 15 (startChecks N taps C (w .store) (w .sums)) tt (h ∙ g)) (λ _ g. omega arith)
-  never-fifteen (enter d y) =
-      λ h. not-fifteen (enterAll (w .campaign) (w .store) (w .sums) d y) (ap not t) tt (sym (entry-first (w .campaign) (w .store) (w .sums) d y) ∙ h)
+  never-fifteen (enter d night y) =
+      λ h. not-fifteen (enterAll (w .campaign) (w .store) (w .sums) d night y) (ap not t) tt (sym (entry-first (w .campaign) (w .store) (w .sums) d night y) ∙ h)
   never-fifteen (withdraw d) =
       outcome-cases {A = Withdrawn × List ℤ × List ℤ} (withdrawChecks (w .campaign) (w .store) (w .sums) d) tt
       (λ n. (record { answer = n; campaign = w .campaign }, w .store, w .sums)) (withdrawnOutcome (w .campaign) (w .store) (w .sums) d) (λ o. o .0 .answer ≡ 15 → ⊥)

@@ -1,5 +1,5 @@
 -- A kept entry withdrawn after calls on other days: the sums and the set of standing days are as if it had not come, provided none of those
--- calls was refused with 12. A start names every day, so none is among those calls. Withdrawn at once: store, sums and slots are as they were.
+-- calls was refused with 12. A start names every day, so none is among those calls. Withdrawn at once: store, sums and slots and periods are as they were.
 -- For every run. Assumes nothing.
 use mathlib.Core.Path.{_≡_, refl, sym, ap, ap₂, subst, _∙_}
 use mathlib.Core.Bool.{Bool, true, false, cond, not, _&&_}
@@ -11,6 +11,7 @@ use borrow.Author.Tests.{eq-eqb, ne-eqb, eqb-true}
 use lib.Dec.{T, eqb}
 use lib.IntN.{ℤ, pos}
 use lib.ListN.{length}
+use Rattle.sums.specs.Sum.{sum}
 use Rattle.sums.specs.Lists.{at, many}
 use Rattle.sums.specs.Refusals.{first}
 use Rattle.sums.proofs.First.{refused-first, passed-first, accepts, outcome-cases}
@@ -18,10 +19,12 @@ use Rattle.sums.proofs.Sum.{sum-ext, total-changed}
 use Rattle.register.specs.Register.{P}
 use Rattle.samples.specs.Samples.{lengthOff, someOut}
 use Rattle.finding.specs.Finding.{finding}
+use Rattle.nights.specs.Nights.{periodsOf, periodsOut, nightLength, settled}
+use Rattle.nights.specs.declared.Night.{Night}
 use Rattle.records.specs.Record.{standing, withdrawn, state, stands, daysIn, together}
-use Rattle.campaign.specs.Calls.{dayOut, withdrawChecks, withdrawnOutcome, enterOutcome, withdrawOutcome, keeps}
+use Rattle.campaign.specs.Calls.{dayOut, settledOf, withdrawChecks, withdrawnOutcome, enterOutcome, withdrawOutcome, stateOf, keeps}
 use Rattle.campaign.proofs.EntryCases.{entry-first}
-use Rattle.history.specs.Run.{World, Call, start, enter, withdraw, counts, response, summary, after, answer, accepted, run, starts, underWay, begun, names, makes, made, recording, heard, Elsewhere}
+use Rattle.history.specs.Run.{World, Call, start, enter, withdraw, counts, response, summary, after, answer, accepted, run, starts, underWay, begun, names, makes, made, Heard, termAt, recording, heard, Elsewhere}
 use Rattle.records.specs.declared.Campaign.{Campaign}
 use Rattle.campaign.specs.declared.Withdrawn.{Withdrawn}
 use Rattle.records.proofs.Holding.{holds-together}
@@ -37,16 +40,18 @@ use Rattle.history.proofs.EveryRun.{sums-are}
 -- ---- the answer of an entry and of a withdrawal, as one list of checks
 
 -- those before the verdict, where the record holds together
-abbrev early : Campaign → ℕ → List ℤ → List (ℕ × Bool)
-early c d y = (10, dayOut d) ∷ (5, lengthOff (P (c .order)) y) ∷ (7, someOut (length y) (at y)) ∷ (11, stands c d) ∷ []
+abbrev early : Campaign → ℕ → Night → List ℤ → List (ℕ × Bool)
+early c d night y =
+    (10, dayOut d) ∷ (18, periodsOut night) ∷ (5, lengthOff (nightLength (P (c .order)) night) y) ∷ (7, someOut (length y) (at y)) ∷ (11, stands c d) ∷ []
 
-abbrev full : Campaign → List ℤ → List (ℕ × Bool)
-full c y = (12, keeps (finding y) && eqb (daysIn c standing) (c .capacity)) ∷ []
+abbrev full : Campaign → Night → List ℤ → List (ℕ × Bool)
+full c night y = (12, keeps (finding (settledOf c night y)) && eqb (daysIn c standing) (c .capacity)) ∷ []
 
-enter-answer : (w : World) → together (w .campaign) (w .store) (w .sums) ≡ true → (d : ℕ) (y : List ℤ)
-    → answer w (enter d y) ≡ first (early (w .campaign) d y ++ full (w .campaign) y)
-enter-answer w t d y =
-    entry-first (w .campaign) (w .store) (w .sums) d y ∙ ap (λ b. cond (not b) 15 (first (early (w .campaign) d y ++ full (w .campaign) y))) t
+enter-answer : (w : World) → together (w .campaign) (w .store) (w .sums) ≡ true → (d : ℕ) (night : Night) (y : List ℤ)
+    → answer w (enter d night y) ≡ first (early (w .campaign) d night y ++ full (w .campaign) night y)
+enter-answer w t d night y =
+    entry-first (w .campaign) (w .store) (w .sums) d night y
+    ∙ ap (λ b. cond (not b) 15 (first (early (w .campaign) d night y ++ full (w .campaign) night y))) t
 
 withdraw-answer : (w : World) → together (w .campaign) (w .store) (w .sums) ≡ true → (d : ℕ)
     → answer w (withdraw d) ≡ first ((10, dayOut d) ∷ (13, not (stands (w .campaign) d)) ∷ [])
@@ -65,10 +70,10 @@ pub record AsIf (p : ℕ) (a b : World) : Type 0 where
   pub sums : (j : ℕ) → j < p → at (a .sums) j ≡ at (b .sums) j
   pub days : (e : ℕ) → Day e → stands (a .campaign) e ≡ stands (b .campaign) e
 
-module _ (w₀ : World) (cs : List Call) (started : underWay w₀ cs ≡ true) (d : ℕ) (y : List ℤ) (r : Day d) where
+module _ (w₀ : World) (cs : List Call) (started : underWay w₀ cs ≡ true) (d : ℕ) (night : Night) (y : List ℤ) (r : Day d) where
   -- the calls `between` after the entry, and the same with no entry
   abbrev with-it : List Call → List Call
-  with-it between = between ++ (enter d y ∷ cs)
+  with-it between = between ++ (enter d night y ∷ cs)
 
   abbrev without-it : List Call → List Call
   without-it between = between ++ cs
@@ -86,7 +91,7 @@ module _ (w₀ : World) (cs : List Call) (started : underWay w₀ cs ≡ true) (
 
   no-start : (call : Call) → names call d ≡ false → starts call ≡ false
   no-start (start N taps C) e = e
-  no-start (enter e z) _ = refl
+  no-start (enter e other z) _ = refl
   no-start (withdraw e) _ = refl
   no-start counts _ = refl
   no-start (response x1 x2 x3 x4) _ = refl
@@ -118,6 +123,29 @@ module _ (w₀ : World) (cs : List Call) (started : underWay w₀ cs ≡ true) (
     unfolding campaign-a campaign-b
     same-state e p n = ever (s .onward-a) .days e p ∙ s .others e p n ∙ sym (ever (s .onward-b) .days e p)
 
+    same-order : campaign-a .order ≡ campaign-b .order
+    unfolding campaign-a campaign-b
+    same-order = ever (s .onward-a) .order ∙ ap (λ (x : Campaign). x .order) (s .onward-a .same ∙ sym (s .onward-b .same)) ∙ sym (ever (s .onward-b) .order)
+
+    -- a call makes the same of a day, and leaves the same recording, in both
+    same-makes : (call : Call) → makes (run w₀ a) call ≡ makes (run w₀ b) call
+    unfolding campaign-a campaign-b
+    same-makes (start N taps C) = refl
+    same-makes (enter e v z) = ap (λ o. stateOf (finding (settled (P o) v z))) same-order
+    same-makes (withdraw e) = refl
+    same-makes counts = refl
+    same-makes (response x1 x2 x3 x4) = refl
+    same-makes (summary x1 x2) = refl
+
+    same-recording : (call : Call) (x : Heard) → recording (run w₀ a) call x ≡ recording (run w₀ b) call x
+    unfolding campaign-a campaign-b
+    same-recording (start N taps C) x = refl
+    same-recording (enter e v z) x = ap (λ o. record { periods = periodsOf v; samples = settled (P o) v z }) same-order
+    same-recording (withdraw e) x = refl
+    same-recording counts x = refl
+    same-recording (response x1 x2 x3 x4) x = refl
+    same-recording (summary x1 x2) x = refl
+
     -- one day more stands with the entry
     one-more : daysIn campaign-a standing ≡ suc (daysIn campaign-b standing)
     unfolding campaign-a campaign-b many
@@ -130,15 +158,15 @@ module _ (w₀ : World) (cs : List Call) (started : underWay w₀ cs ≡ true) (
         omega arith
 
     -- a call on another day is accepted in both or in neither
-    same-entry : (e : ℕ) (z : List ℤ) → Day e → (e ≡ d → ⊥) → (answer (run w₀ a) (enter e z) ≡ 12 → ⊥) → answer (run w₀ a) (enter e z) ≡ answer (run w₀ b) (enter e z)
+    same-entry : (e : ℕ) (v : Night) (z : List ℤ) → Day e → (e ≡ d → ⊥) → (answer (run w₀ a) (enter e v z) ≡ 12 → ⊥) → answer (run w₀ a) (enter e v z) ≡ answer (run w₀ b) (enter e v z)
     unfolding campaign-a campaign-b
-    same-entry e z p n twelve =
-        enter-answer (run w₀ a) (holds (s .onward-a)) e z ∙ lists (first (early campaign-b e z)) refl ∙ sym (enter-answer (run w₀ b) (holds (s .onward-b)) e z)
+    same-entry e v z p n twelve =
+        enter-answer (run w₀ a) (holds (s .onward-a)) e v z ∙ lists (first (early campaign-b e v z)) refl ∙ sym (enter-answer (run w₀ b) (holds (s .onward-b)) e v z)
       where
-        alike : early campaign-a e z ≡ early campaign-b e z
+        alike : early campaign-a e v z ≡ early campaign-b e v z
         alike =
-            ap₂ (λ o q. (10, dayOut e) ∷ (5, lengthOff (P o) z) ∷ (7, someOut (length z) (at z)) ∷ (11, eqb q standing) ∷ [])
-            (ever (s .onward-a) .order ∙ ap (λ (x : Campaign). x .order) (s .onward-a .same ∙ sym (s .onward-b .same)) ∙ sym (ever (s .onward-b) .order)) (same-state e p n)
+            ap₂ (λ o q. (10, dayOut e) ∷ (18, periodsOut v) ∷ (5, lengthOff (nightLength (P o) v) z) ∷ (7, someOut (length z) (at z)) ∷ (11, eqb q standing) ∷ [])
+            same-order (same-state e p n)
 
         room : eqb (daysIn campaign-b standing) (campaign-b .capacity) ≡ false
         room =
@@ -149,21 +177,21 @@ module _ (w₀ : World) (cs : List Call) (started : underWay w₀ cs ≡ true) (
         and-none true = refl
         and-none false = refl
 
-        passed : first (early campaign-b e z) ≡ 0 → first (full campaign-a z) ≡ 0
-        passed q = go (keeps (finding z) && eqb (daysIn campaign-a standing) (campaign-a .capacity)) refl
+        passed : first (early campaign-b e v z) ≡ 0 → first (full campaign-a v z) ≡ 0
+        passed q = go (keeps (finding (settledOf campaign-a v z)) && eqb (daysIn campaign-a standing) (campaign-a .capacity)) refl
           where
-            go : (k : Bool) → keeps (finding z) && eqb (daysIn campaign-a standing) (campaign-a .capacity) ≡ k → first ((12, k) ∷ []) ≡ 0
+            go : (k : Bool) → keeps (finding (settledOf campaign-a v z)) && eqb (daysIn campaign-a standing) (campaign-a .capacity) ≡ k → first ((12, k) ∷ []) ≡ 0
             go false g = refl
             go true g =
-                absurd (twelve (enter-answer (run w₀ a) (holds (s .onward-a)) e z ∙ passed-first (early campaign-a e z) (full campaign-a z) tt (ap first alike ∙ q) ∙ ap (λ k. first ((12, k) ∷ [])) g))
+                absurd (twelve (enter-answer (run w₀ a) (holds (s .onward-a)) e v z ∙ passed-first (early campaign-a e v z) (full campaign-a v z) tt (ap first alike ∙ q) ∙ ap (λ k. first ((12, k) ∷ [])) g))
 
-        lists : (n : ℕ) → first (early campaign-b e z) ≡ n → first (early campaign-a e z ++ full campaign-a z) ≡ first (early campaign-b e z ++ full campaign-b z)
+        lists : (n : ℕ) → first (early campaign-b e v z) ≡ n → first (early campaign-a e v z ++ full campaign-a v z) ≡ first (early campaign-b e v z ++ full campaign-b v z)
         lists zero q =
-            passed-first (early campaign-a e z) (full campaign-a z) tt (ap first alike ∙ q) ∙ passed q
-            ∙ sym (passed-first (early campaign-b e z) (full campaign-b z) tt q ∙ ap (λ k. first ((12, k) ∷ [])) (ap (λ k. keeps (finding z) && k) room ∙ and-none (keeps (finding z))))
+            passed-first (early campaign-a e v z) (full campaign-a v z) tt (ap first alike ∙ q) ∙ passed q
+            ∙ sym (passed-first (early campaign-b e v z) (full campaign-b v z) tt q ∙ ap (λ k. first ((12, k) ∷ [])) (ap (λ k. keeps (finding (settledOf campaign-b v z)) && k) room ∙ and-none (keeps (finding (settledOf campaign-b v z)))))
         lists (suc n) q =
-            refused-first (early campaign-a e z) (full campaign-a z) (λ g. omega (arith, sym (ap first alike ∙ q) ∙ g)) ∙ ap first alike
-            ∙ sym (refused-first (early campaign-b e z) (full campaign-b z) (λ g. omega (arith, sym q ∙ g)))
+            refused-first (early campaign-a e v z) (full campaign-a v z) (λ g. omega (arith, sym (ap first alike ∙ q) ∙ g)) ∙ ap first alike
+            ∙ sym (refused-first (early campaign-b e v z) (full campaign-b v z) (λ g. omega (arith, sym q ∙ g)))
 
     same-withdrawal : (e : ℕ) → Day e → (e ≡ d → ⊥) → answer (run w₀ a) (withdraw e) ≡ answer (run w₀ b) (withdraw e)
     unfolding campaign-a campaign-b
@@ -179,9 +207,9 @@ module _ (w₀ : World) (cs : List Call) (started : underWay w₀ cs ≡ true) (
         where
           go : (k : Call) → names k d ≡ false → (answer (run w₀ a) k ≡ 12 → ⊥) → names k e ≡ true → answer (run w₀ a) k ≡ answer (run w₀ b) k
           go (start N taps C) o h u = absurd (subst T o tt)
-          go (enter g z) _ h u =
+          go (enter g v z) _ h u =
               let q = eqb-true g e u in
-              same-entry g z (subst Day (sym q) p) (λ x. n (sym q ∙ x)) h
+              same-entry g v z (subst Day (sym q) p) (λ x. n (sym q ∙ x)) h
           go (withdraw g) _ h u =
               let q = eqb-true g e u in
               same-withdrawal g (subst Day (sym q) p) (λ x. n (sym q ∙ x))
@@ -190,12 +218,12 @@ module _ (w₀ : World) (cs : List Call) (started : underWay w₀ cs ≡ true) (
           go (summary x1 x2) _ h u = absurd (subst T (sym u) tt)
 
       -- what a call makes of a day, in both runs
-      both : {A : Type 0} (e : ℕ) → Day e → (e ≡ d → ⊥) → (x u v : A) → u ≡ v
-          → cond (names call e && accepted (run w₀ a) call) x u ≡ cond (names call e && accepted (run w₀ b) call) x v
-      both e p n x u v q = go (names call e) refl
+      both : {A : Type 0} (e : ℕ) → Day e → (e ≡ d → ⊥) → (x z u v : A) → x ≡ z → u ≡ v
+          → cond (names call e && accepted (run w₀ a) call) x u ≡ cond (names call e && accepted (run w₀ b) call) z v
+      both e p n x z u v f q = ap (λ i. cond (names call e && accepted (run w₀ a) call) i u) f ∙ go (names call e) refl
         where
-          go : (k : Bool) → names call e ≡ k → cond (k && accepted (run w₀ a) call) x u ≡ cond (k && accepted (run w₀ b) call) x v
-          go true g = ap₂ (λ o z. cond o x z) (same-accepted e p n g) q
+          go : (k : Bool) → names call e ≡ k → cond (k && accepted (run w₀ a) call) z u ≡ cond (k && accepted (run w₀ b) call) z v
+          go true g = ap₂ (λ o i. cond o z i) (same-accepted e p n g) q
           go false g = q
 
       more-alike : Alike (call ∷ a) (call ∷ b)
@@ -204,47 +232,47 @@ module _ (w₀ : World) (cs : List Call) (started : underWay w₀ cs ≡ true) (
           record {
             onward-a = further (s .onward-a) call (no-start call other);
             onward-b = further (s .onward-b) call (no-start call other);
-            others = λ e p n. both e p n (makes call) (made w₀ a e) (made w₀ b e) (s .others e p n);
+            others = λ e p n. both e p n (makes (run w₀ a) call) (makes (run w₀ b) call) (made w₀ a e) (made w₀ b e) (same-makes call) (s .others e p n);
             hears = λ e p n.
                 let q = s .hears e p n in
-                both e p n (recording call (heard w₀ a e)) (heard w₀ a e) (heard w₀ b e) q
-                ∙ ap (λ z. cond (names call e && accepted (run w₀ b) call) (recording call z) (heard w₀ b e)) q;
-            mine = ap (λ k. cond (k && accepted (run w₀ a) call) (makes call) (made w₀ a d)) other ∙ s .mine;
-            none = λ e. s .none (sym (ap (λ k. cond (k && accepted (run w₀ b) call) (makes call) (made w₀ b d)) other) ∙ e);
+                both e p n (recording (run w₀ a) call (heard w₀ a e)) (recording (run w₀ b) call (heard w₀ b e)) (heard w₀ a e) (heard w₀ b e)
+                (same-recording call (heard w₀ a e) ∙ ap (recording (run w₀ b) call) q) q;
+            mine = ap (λ k. cond (k && accepted (run w₀ a) call) (makes (run w₀ a) call) (made w₀ a d)) other ∙ s .mine;
+            none = λ e. s .none (sym (ap (λ k. cond (k && accepted (run w₀ b) call) (makes (run w₀ b) call) (made w₀ b d)) other) ∙ e);
           }
 
   -- ---- from the entry on
 
-  module _ (entered-0 : answer (run w₀ cs) (enter d y) ≡ 0) (kept : makes (enter d y) ≡ standing) where
+  module _ (entered-0 : answer (run w₀ cs) (enter d night y) ≡ 0) (kept : makes (run w₀ cs) (enter d night y) ≡ standing) where
     not-standing : made w₀ cs d ≡ standing → ⊥
-    not-standing e = go (entering (run w₀ cs) d y (holds here))
+    not-standing e = go (entering (run w₀ cs) d night y (holds here))
       where
-        go : Entering (run w₀ cs) d y (enterOutcome (run w₀ cs .campaign) (run w₀ cs .store) (run w₀ cs .sums) d y) → ⊥
+        go : Entering (run w₀ cs) d night y (enterOutcome (run w₀ cs .campaign) (run w₀ cs .store) (run w₀ cs .sums) d night y) → ⊥
         go (steps.refused n g h i) = n entered-0
         go (steps.aside q b v n l p f g h i) = f (ever here .days d r ∙ e)
-        go (steps.kept k b v p n l f long good g h i) = n (ever here .days d r ∙ e)
+        go (steps.kept k b v p n l f least most good g h i) = n (ever here .days d r ∙ e)
 
-    at-entry : Alike (enter d y ∷ cs) cs
+    at-entry : Alike (enter d night y ∷ cs) cs
     unfolding made heard
     at-entry =
         record {
-          onward-a = further here (enter d y) refl;
+          onward-a = further here (enter d night y) refl;
           onward-b = here;
-          others = λ e p n. other-day e n (makes (enter d y)) (made w₀ cs e);
-          hears = λ e p n. other-day e n y (heard w₀ cs e);
-          mine = ap₂ (λ k o. cond (k && o) (makes (enter d y)) (made w₀ cs d)) (eq-eqb d d refl) (eq-eqb (answer (run w₀ cs) (enter d y)) 0 entered-0) ∙ kept;
+          others = λ e p n. other-day e n (makes (run w₀ cs) (enter d night y)) (made w₀ cs e);
+          hears = λ e p n. other-day e n (recording (run w₀ cs) (enter d night y) (heard w₀ cs e)) (heard w₀ cs e);
+          mine = ap₂ (λ k o. cond (k && o) (makes (run w₀ cs) (enter d night y)) (made w₀ cs d)) (eq-eqb d d refl) (eq-eqb (answer (run w₀ cs) (enter d night y)) 0 entered-0) ∙ kept;
           none = not-standing;
         }
       where
-        other-day : {A : Type 0} (e : ℕ) → (e ≡ d → ⊥) → (x u : A) → cond (eqb d e && accepted (run w₀ cs) (enter d y)) x u ≡ u
-        other-day e n x u = ap (λ k. cond (k && accepted (run w₀ cs) (enter d y)) x u) (ne-eqb d e (λ q. n (sym q)))
+        other-day : {A : Type 0} (e : ℕ) → (e ≡ d → ⊥) → (x u : A) → cond (eqb d e && accepted (run w₀ cs) (enter d night y)) x u ≡ u
+        other-day e n x u = ap (λ k. cond (k && accepted (run w₀ cs) (enter d night y)) x u) (ne-eqb d e (λ q. n (sym q)))
 
-    alike : (between : List Call) → Elsewhere w₀ d (enter d y ∷ cs) between → Alike (with-it between) (without-it between)
+    alike : (between : List Call) → Elsewhere w₀ d (enter d night y ∷ cs) between → Alike (with-it between) (without-it between)
     unfolding Elsewhere
     alike [] b = at-entry
     alike (call ∷ between) b = more-alike (alike between (b .2)) call (b .0) (b .1)
 
-    pub as-if : (between : List Call) → Elsewhere w₀ d (enter d y ∷ cs) between → (answer (run w₀ (with-it between)) (withdraw d) ≡ 0)
+    pub as-if : (between : List Call) → Elsewhere w₀ d (enter d night y ∷ cs) between → (answer (run w₀ (with-it between)) (withdraw d) ≡ 0)
         × AsIf (P (begun w₀ cs .order)) (run w₀ (withdraw d ∷ with-it between)) (run w₀ (without-it between))
     unfolding made heard
     as-if between b = (answered-0, record { sums = same-sums; days = same-days })
@@ -275,21 +303,28 @@ module _ (w₀ : World) (cs : List Call) (started : underWay w₀ cs ≡ true) (
 
         -- a day's part in the sums, in both runs
         part : (i j : ℕ) → i < 366
-            → cond (eqb (made w₀ (withdraw d ∷ with-it between) (i + 1)) standing) (at (heard w₀ (withdraw d ∷ with-it between) (i + 1)) j) (pos 0)
-            ≡ cond (eqb (made w₀ (without-it between) (i + 1)) standing) (at (heard w₀ (without-it between) (i + 1)) j) (pos 0)
+            → cond (eqb (made w₀ (withdraw d ∷ with-it between) (i + 1)) standing) (termAt (P (begun w₀ cs .order)) (heard w₀ (withdraw d ∷ with-it between) (i + 1)) j) (pos 0)
+            ≡ cond (eqb (made w₀ (without-it between) (i + 1)) standing) (termAt (P (begun w₀ cs .order)) (heard w₀ (without-it between) (i + 1)) j) (pos 0)
         part i j l = elim (ℕ-discrete (i + 1) d) [
           | yes e ↦
-              ap (λ q. cond (eqb q standing) (at (heard w₀ (withdraw d ∷ with-it between) (i + 1)) j) (pos 0)) (ap (made w₀ (withdraw d ∷ with-it between)) e ∙ gone)
-              ∙ sym (ap (λ k. cond k (at (heard w₀ (without-it between) (i + 1)) j) (pos 0)) (ne-eqb (made w₀ (without-it between) (i + 1)) standing (λ q. s .none (ap (made w₀ (without-it between)) (sym e) ∙ q))))
+              ap (λ q. cond (eqb q standing) (termAt (P (begun w₀ cs .order)) (heard w₀ (withdraw d ∷ with-it between) (i + 1)) j) (pos 0)) (ap (made w₀ (withdraw d ∷ with-it between)) e ∙ gone)
+              ∙ sym (ap (λ k. cond k (termAt (P (begun w₀ cs .order)) (heard w₀ (without-it between) (i + 1)) j) (pos 0)) (ne-eqb (made w₀ (without-it between) (i + 1)) standing (λ q. s .none (ap (made w₀ (without-it between)) (sym e) ∙ q))))
           | no e ↦
-              ap₂ (λ q z. cond (eqb q standing) (at z j) (pos 0)) (before (i + 1) e ∙ s .others (i + 1) (day i l) e) (unheard (i + 1) ∙ s .hears (i + 1) (day i l) e)
+              ap₂ (λ q z. cond (eqb q standing) (termAt (P (begun w₀ cs .order)) z j) (pos 0)) (before (i + 1) e ∙ s .others (i + 1) (day i l) e) (unheard (i + 1) ∙ s .hears (i + 1) (day i l) e)
         ]
+
+        -- the sums after calls of the same campaign
+        sums-of : (calls : List Call) → Onward calls → (j : ℕ) → j < P (begun w₀ cs .order)
+            → at (run w₀ calls .sums) j ≡ sum 366 (λ i. cond (eqb (made w₀ calls (i + 1)) standing) (termAt (P (begun w₀ cs .order)) (heard w₀ calls (i + 1)) j) (pos 0))
+        sums-of calls o j l =
+            sums-are w₀ calls (o .going) j (subst (λ (x : Campaign). j < P (x .order)) (sym (o .same)) l)
+            ∙ ap (λ (x : Campaign). sum 366 (λ i. cond (eqb (made w₀ calls (i + 1)) standing) (termAt (P (x .order)) (heard w₀ calls (i + 1)) j) (pos 0))) (o .same)
 
         same-sums : (j : ℕ) → j < P (begun w₀ cs .order) → at (run w₀ (withdraw d ∷ with-it between) .sums) j ≡ at (run w₀ (without-it between) .sums) j
         same-sums j l =
-            sums-are w₀ (withdraw d ∷ with-it between) (after-all .going) j (subst (λ (x : Campaign). j < P (x .order)) (sym (after-all .same)) l)
+            sums-of (withdraw d ∷ with-it between) after-all j l
             ∙ sum-ext 366 (λ i h. part i j h)
-            ∙ sym (sums-are w₀ (without-it between) (s .onward-b .going) j (subst (λ (x : Campaign). j < P (x .order)) (sym (s .onward-b .same)) l))
+            ∙ sym (sums-of (without-it between) (s .onward-b) j l)
 
         same-days : (e : ℕ) → Day e → stands (run w₀ (withdraw d ∷ with-it between) .campaign) e ≡ stands (run w₀ (without-it between) .campaign) e
         same-days e p = elim (ℕ-discrete e d) [
@@ -301,5 +336,5 @@ module _ (w₀ : World) (cs : List Call) (started : underWay w₀ cs ≡ true) (
 
   -- ---- and at once
 
-  pub at-once : answer (run w₀ cs) (enter d y) ≡ 0 → makes (enter d y) ≡ standing → Undone (run w₀ cs) (after (after (run w₀ cs) (enter d y)) (withdraw d))
-  at-once = undone (run w₀ cs) (ever here .sized) (holds here) d y
+  pub at-once : answer (run w₀ cs) (enter d night y) ≡ 0 → makes (run w₀ cs) (enter d night y) ≡ standing → Undone (run w₀ cs) (after (after (run w₀ cs) (enter d night y)) (withdraw d))
+  at-once = undone (run w₀ cs) (ever here .sized) (holds here) d night y

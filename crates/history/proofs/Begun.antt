@@ -24,7 +24,7 @@ replicated (suc n) zero = refl
 replicated (suc n) (suc i) = replicated n i
 
 pub begun-sized : (N taps C : ℕ) → Sized (fresh N taps C)
-begun-sized N taps C = record { days = length-replicate {A = ℕ} 366 0; slots = length-replicate {A = ℕ} 64 0 }
+begun-sized N taps C = record { days = length-replicate {A = ℕ} 366 0; slots = length-replicate {A = ℕ} 64 0; periods = length-replicate {A = ℕ} 64 0 }
 
 pub begun-state : (N taps C d : ℕ) → state (fresh N taps C) d ≡ unseen
 begun-state N taps C d = replicated 366 (d - 1)
@@ -44,6 +44,8 @@ begun-together N taps C store sums b =
         past = λ s l h. begun-slot N taps C s;
         named = λ s l u. absurd (u (begun-slot N taps C s));
         one = λ i l e. absurd (never i e);
+        counted = λ s l u. absurd (u (begun-slot N taps C s));
+        uncounted = λ s l e. replicated 64 s;
       };
       store-long = rw (length-put (table (C * P N) (λ _. pos 0)) store (omega (arith, length-table (C * P N) (λ _. pos 0), b .store-long))) (b .store-long);
       sums-long = rw (length-put (table (P N) (λ _. pos 0)) sums (omega (arith, length-table (P N) (λ _. pos 0), b .sums-long))) (b .sums-long);

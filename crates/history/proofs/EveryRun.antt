@@ -1,19 +1,19 @@
 -- The third demand: after any run of calls each day's state, the sums and the answer are exactly what the history says. For every world
 -- `w₀`, a record and lent memory whatever they hold, and every list of calls `cs`, the latest first, refused calls included, among which a start was
 -- accepted. The order and the taps are those of the last such start. Assumes nothing.
-use mathlib.Core.Path.{_≡_, sym, ap, ap₂, subst, _∙_}
-use mathlib.Core.Bool.{true, cond}
+use mathlib.Core.Path.{_≡_, refl, sym, ap, ap₂, subst, _∙_}
+use mathlib.Core.Bool.{Bool, true, false, cond}
 use mathlib.Core.List.{List}
 use Prim.Native.Nat.{ℕ, suc, _+_, _-_, _*_, _<_}
 use native.Mathlib.Decide.{ℕ-discrete}
 use native.Mathlib.Omega.{arith}
 use borrow.Author.Tests.{eq-eqb, ne-eqb}
 use lib.Dec.{eqb}
-use lib.IntN.{ℤ, pos, _*ℤ_, *ℤ-zero}
-use Rattle.sums.specs.Sum.{sum}
+use lib.IntN.{ℤ, pos, natAbs, _*ℤ_, *ℤ-zero}
+use Rattle.sums.specs.Sum.{sum, total}
 use Rattle.sums.specs.Lists.{at, many}
 use Rattle.sums.proofs.Everywhere.{many-ext, many-some}
-use Rattle.sums.proofs.Sum.{sum-ext, sum-scale}
+use Rattle.sums.proofs.Sum.{sum-ext, sum-scale, pos-total}
 use Rattle.sums.proofs.Tables.{at-put}
 use Rattle.register.specs.Register.{P, wave, Accepted}
 use Rattle.register.proofs.Judged.{generator}
@@ -21,9 +21,9 @@ use Rattle.response.specs.Response.{prediction}
 use Rattle.response.specs.Response as formula
 use Rattle.response.proofs.Linear.{response-ext, response-zero, response-sum}
 use Rattle.response.proofs.Register.{predicted}
-use Rattle.records.specs.Record.{unseen, standing, overloaded, dead, withdrawn, state, stands, daysIn, slot, free, together}
+use Rattle.records.specs.Record.{unseen, standing, overloaded, dead, withdrawn, state, stands, daysIn, slot, free, periods, periodsStanding, together}
 use Rattle.trend.specs.Calls.{countsOutcome, responseOutcome, worked}
-use Rattle.history.specs.Run.{World, Call, answer, run, underWay, begun, made, heard}
+use Rattle.history.specs.Run.{World, Call, answer, run, underWay, begun, made, termAt, heard}
 use Rattle.trend.specs.declared.Counts.the-variants.{Counted}
 use Rattle.trend.proofs.Bounds.{counts-total}
 use Rattle.records.proofs.Holding.{holds-together}
@@ -91,55 +91,89 @@ module _ (w₀ : World) (cs : List Call) (started : underWay w₀ cs ≡ true) w
       rw (← days-are unseen, ← days-are standing, ← days-are overloaded, ← days-are dead, ← days-are withdrawn)
       (counts-total (w .campaign) (history .holds .filed))
 
-  -- ---- 3. The sums are, place by place, the total of the last recordings accepted for exactly the days then standing.
+  -- ---- 3. The sums are, place by place, the total of the last recordings accepted for exactly the days then standing, each the sum of its
+  -- periods.
 
-  pub sums-are : (j : ℕ) → j < P N → at (w .sums) j ≡ sum 366 (λ i. cond (eqb (made w₀ cs (i + 1)) standing) (at (heard w₀ cs (i + 1)) j) (pos 0))
+  pub sums-are : (j : ℕ) → j < P N
+      → at (w .sums) j ≡ sum 366 (λ i. cond (eqb (made w₀ cs (i + 1)) standing) (termAt (P N) (heard w₀ cs (i + 1)) j) (pos 0))
   sums-are j l =
       let s = history in
       let m : j < P (run w₀ cs .campaign .order) = omega (arith, ap P (s .order)) in
       s .holds .total j m
       ∙ sum-ext _ (λ k h. by-slot k h m)
-      ∙ slots-as-days (run w₀ cs .campaign) (s .holds .filed) (λ d. at (heard w₀ cs d) j)
-      ∙ sum-ext 366 (λ i h. ap (λ q. cond (eqb q standing) (at (heard w₀ cs (i + 1)) j) (pos 0)) (s .days (i + 1) (day i h)))
+      ∙ slots-as-days (run w₀ cs .campaign) (s .holds .filed) (λ d. termAt (P N) (heard w₀ cs d) j)
+      ∙ sum-ext 366 (λ i h. ap (λ q. cond (eqb q standing) (termAt (P N) (heard w₀ cs (i + 1)) j) (pos 0)) (s .days (i + 1) (day i h)))
     where
       by-slot : (k : ℕ) → k < run w₀ cs .campaign .capacity → j < P (run w₀ cs .campaign .order)
           → cond (free (run w₀ cs .campaign) k) (pos 0) (at (run w₀ cs .store) (k * P (run w₀ cs .campaign .order) + j))
-          ≡ cond (free (run w₀ cs .campaign) k) (pos 0) (at (heard w₀ cs (slot (run w₀ cs .campaign) k)) j)
+          ≡ cond (free (run w₀ cs .campaign) k) (pos 0) (termAt (P N) (heard w₀ cs (slot (run w₀ cs .campaign) k)) j)
       by-slot k h m = elim (ℕ-discrete (slot (run w₀ cs .campaign) k) 0) [
         | yes e ↦ rw (eq-eqb (slot (run w₀ cs .campaign) k) 0 e)
-        | no e ↦ ap (λ z. cond (free (run w₀ cs .campaign) k) (pos 0) z) (history .slot-hears k h e j m)
+        | no e ↦ ap (λ z. cond (free (run w₀ cs .campaign) k) (pos 0) z)
+            (history .slot-hears k h e j m ∙ ap (λ n. termAt (P n) (heard w₀ cs (slot (run w₀ cs .campaign) k)) j) (history .order))
       ]
 
-  -- ---- 4. If at least one day stands and each such recording is the circular convolution of a whole-number response with the sequence,
-  -- the response answers 0 and r at every place is exactly (P+1) times the sum of those responses.
+  -- and the record's periods are theirs
+  pub periods-are : periodsStanding (w .campaign) ≡ total 366 (λ i. cond (eqb (made w₀ cs (i + 1)) standing) (heard w₀ cs (i + 1) .periods) 0)
+  periods-are =
+      ap natAbs
+      (pos-total (run w₀ cs .campaign .capacity) (periods (run w₀ cs .campaign))
+      ∙ sum-ext _ by-slot
+      ∙ slots-as-days (run w₀ cs .campaign) (history .holds .filed) (λ d. pos (heard w₀ cs d .periods))
+      ∙ sum-ext 366 (λ i h. ap (λ q. cond (eqb q standing) (pos (heard w₀ cs (i + 1) .periods)) (pos 0)) (history .days (i + 1) (day i h))
+      ∙ sym (pos-cond (eqb (made w₀ cs (i + 1)) standing) (heard w₀ cs (i + 1) .periods)))
+      ∙ sym (pos-total 366 (λ i. cond (eqb (made w₀ cs (i + 1)) standing) (heard w₀ cs (i + 1) .periods) 0)))
+    where
+      pos-cond : (b : Bool) (n : ℕ) → pos (cond b n 0) ≡ cond b (pos n) (pos 0)
+      pos-cond true n = refl
+      pos-cond false n = refl
 
-  module _ (h : ℕ → ℕ → ℤ)
-      (convolved : (d : ℕ) → Day d → made w₀ cs d ≡ standing → (j : ℕ) → j < P N → at (heard w₀ cs d) j ≡ prediction (P N) (wave N taps) (h d) j) where
-    -- the sum of the responses of the days standing
-    unfoldable pub total : ℕ → ℤ
-    total k = sum 366 (λ i. cond (eqb (made w₀ cs (i + 1)) standing) (h (i + 1) k) (pos 0))
+      by-slot : (k : ℕ) → k < run w₀ cs .campaign .capacity
+          → pos (periods (run w₀ cs .campaign) k) ≡ cond (free (run w₀ cs .campaign) k) (pos 0) (pos (heard w₀ cs (slot (run w₀ cs .campaign) k) .periods))
+      by-slot k h = elim (ℕ-discrete (slot (run w₀ cs .campaign) k) 0) [
+        | yes e ↦ rw (eq-eqb (slot (run w₀ cs .campaign) k) 0 e) (ap pos (history .holds .filed .uncounted k (omega (arith, history .holds .filed .most)) e))
+        | no e ↦ rw (ne-eqb (slot (run w₀ cs .campaign) k) 0 e) (ap pos (history .slot-counts k h e))
+      ]
+
+  -- ---- 4. If at least one day stands and each period of each such recording is the circular convolution of its own whole-number response with
+  -- the sequence, the response answers 0 and r at every place is exactly (P+1) times the sum of those responses.
+
+  module _ (h : ℕ → ℕ → ℕ → ℤ)
+      (convolved : (d : ℕ) → Day d → made w₀ cs d ≡ standing → (p : ℕ) → p < heard w₀ cs d .periods → (j : ℕ) → j < P N
+      → at (heard w₀ cs d .samples) (p * P N + j) ≡ prediction (P N) (wave N taps) (h d p) j) where
+    -- the sum of a day's responses, and of those of the days standing
+    abbrev ofDay : ℕ → ℕ → ℤ
+    ofDay d k = sum (heard w₀ cs d .periods) (λ p. h d p k)
+
+    unfoldable pub responses : ℕ → ℤ
+    responses k = sum 366 (λ i. cond (eqb (made w₀ cs (i + 1)) standing) (sum (heard w₀ cs (i + 1) .periods) (λ p. h (i + 1) p k)) (pos 0))
 
     one-day : (i k : ℕ) → i < 366 → k < P N
-        → formula.response (P N) (wave N taps) (λ j. cond (eqb (made w₀ cs (i + 1)) standing) (at (heard w₀ cs (i + 1)) j) (pos 0)) k
-        ≡ pos (suc (P N)) *ℤ cond (eqb (made w₀ cs (i + 1)) standing) (h (i + 1) k) (pos 0)
+        → formula.response (P N) (wave N taps) (λ j. cond (eqb (made w₀ cs (i + 1)) standing) (termAt (P N) (heard w₀ cs (i + 1)) j) (pos 0)) k
+        ≡ pos (suc (P N)) *ℤ cond (eqb (made w₀ cs (i + 1)) standing) (ofDay (i + 1) k) (pos 0)
     one-day i k l m = elim (ℕ-discrete (made w₀ cs (i + 1)) standing) [
-      | yes e ↦ rw (eq-eqb (made w₀ cs (i + 1)) standing e)
-          (response-ext (P N) (wave N taps) (convolved (i + 1) (day i l) e) k
-          ∙ predicted N taps (generator maximal) (h (i + 1)) k m)
+      | yes e ↦ rw (eq-eqb (made w₀ cs (i + 1)) standing e) (by-periods e)
       | no e ↦ rw (ne-eqb (made w₀ cs (i + 1)) standing e) (response-zero (P N) (wave N taps) k ∙ sym (*ℤ-zero (pos (suc (P N)))))
     ]
+      where
+        by-periods : made w₀ cs (i + 1) ≡ standing → formula.response (P N) (wave N taps) (termAt (P N) (heard w₀ cs (i + 1))) k ≡ pos (suc (P N)) *ℤ ofDay (i + 1) k
+        by-periods e =
+            response-sum (P N) (wave N taps) (heard w₀ cs (i + 1) .periods) (λ p j. at (heard w₀ cs (i + 1) .samples) (p * P N + j)) k
+            ∙ sum-ext (heard w₀ cs (i + 1) .periods) (λ p o.
+            response-ext (P N) (wave N taps) (convolved (i + 1) (day i l) e p o) k ∙ predicted N taps (generator maximal) (h (i + 1) p) k m)
+            ∙ sum-scale (heard w₀ cs (i + 1) .periods) (pos (suc (P N))) (λ p. h (i + 1) p k)
 
-    from-sums : (k : ℕ) → k < P N → formula.response (P N) (wave N taps) (at (w .sums)) k ≡ pos (suc (P N)) *ℤ total k
-    unfolding total
+    from-sums : (k : ℕ) → k < P N → formula.response (P N) (wave N taps) (at (w .sums)) k ≡ pos (suc (P N)) *ℤ responses k
+    unfolding responses
     from-sums k m =
         response-ext (P N) (wave N taps) sums-are k
-        ∙ response-sum (P N) (wave N taps) 366 (λ i j. cond (eqb (made w₀ cs (i + 1)) standing) (at (heard w₀ cs (i + 1)) j) (pos 0)) k
+        ∙ response-sum (P N) (wave N taps) 366 (λ i j. cond (eqb (made w₀ cs (i + 1)) standing) (termAt (P N) (heard w₀ cs (i + 1)) j) (pos 0)) k
         ∙ sum-ext 366 (λ i l. one-day i k l m)
-        ∙ sum-scale 366 (pos (suc (P N))) (λ i. cond (eqb (made w₀ cs (i + 1)) standing) (h (i + 1) k) (pos 0))
+        ∙ sum-scale 366 (pos (suc (P N))) (λ i. cond (eqb (made w₀ cs (i + 1)) standing) (ofDay (i + 1) k) (pos 0))
 
     pub recovered : (d : ℕ) → Day d → made w₀ cs d ≡ standing → (r mean room : List ℤ) (tags : List ℕ) → RoomFor N r mean room tags
         → let o = responseOutcome (w .campaign) (w .store) (w .sums) r mean room tags in
-        (o .0 ≡ 0) × ((k : ℕ) → k < P N → at (o .1) k ≡ pos (suc (P N)) *ℤ total k)
+        (o .0 ≡ 0) × ((k : ℕ) → k < P N → at (o .1) k ≡ pos (suc (P N)) *ℤ responses k)
     recovered d y e r mean room tags long =
         let s = history in
         let a = answers (run w₀ cs .campaign) (run w₀ cs .store) (run w₀ cs .sums) r mean room tags holds (subst (λ n. RoomFor n r mean room tags) (sym (s .order)) long) some-day in (

@@ -1,4 +1,4 @@
--- Document 01, "Summary": where the days standing are a power of two in number, a summary with room enough answers with levels, and each of the
+-- Document 01, "Summary", and document 02, request 1: where the periods standing are a power of two in number, a summary with room enough answers with levels, and each of the
 -- three that a summary carries is exactly its r over (P+1)·n. Of any record that holds together, so of every one that a run hands back. Assumes
 -- nothing.
 use mathlib.Core.Path.{_≡_, ap, subst}
@@ -18,7 +18,7 @@ use Rattle.sums.proofs.First.{accepts}
 use Rattle.register.specs.Register.{P}
 use Rattle.samples.specs.Samples.{workShort, clearedWide, clearedTags}
 use Rattle.samples.proofs.Rooms.{work-enough}
-use Rattle.records.specs.Record.{standing, daysIn, together}
+use Rattle.records.specs.Record.{standing, daysIn, periodsStanding, together}
 use Rattle.trend.specs.Calls.{worked, divisor, extremesOf, levelsOf, summaryChecks, summaryOutcome}
 use Rattle.records.specs.declared.Campaign.{Campaign}
 use Rattle.trend.specs.declared.Levels.{Levels}
@@ -27,6 +27,7 @@ use Rattle.trend.specs.declared.Summary.the-variants.{Nothing, Measured, Refuse
 use Rattle.history.specs.Run.{World, Call, run, underWay}
 use Rattle.history.proofs.EveryRun.{holds}
 use Rattle.records.proofs.Holding.{holds-together}
+use Rattle.records.proofs.Totals.{periods-days}
 use Rattle.trend.proofs.Leveling.{isNegative, levels-exact}
 
 -- a double that is r over (P+1)·n: read from its bits as f·2^e it has r's sign, and f·(P+1)·n·2^e is |r|, the power of two put on r's side where e is
@@ -59,7 +60,7 @@ module _ (c : Campaign) (store sums room : List ℤ) (tags : List ℕ) (h : toge
       by-checks false true e = let z : _≡_ {A = ℕ} 0 1 = cc in absurd (omega arith)
       by-checks false false e = cc
 
-  module _ (m : ℕ) (e : daysIn c standing ≡ 2 ^ m) where
+  module _ (m : ℕ) (e : periodsStanding c ≡ 2 ^ m) where
     pub levels-carried : (l : Levels) → summaryOutcome c store sums room tags .0 ≡ Measured l → Exact c sums l
     levels-carried l q =
         let level-at = levels-exact c store sums (holds-together c store sums .0 h) m e in
@@ -70,11 +71,11 @@ module _ (c : Campaign) (store sums room : List ℤ) (tags : List ℕ) (h : toge
     carries-levels long wide =
         rw (
           accepts (summaryChecks c store sums room tags) (ap not h, (work-enough (P (c .order)) (length room) (length tags) long wide, tt)),
-          ne-eqb (daysIn c standing) 0 (λ z. omega (arith, pow-pos m)),
+          ne-eqb (daysIn c standing) 0 (λ z. omega (arith, pow-pos m, periods-days c (holds-together c store sums .0 h .filed))),
         )
 
 -- so after any run in which a start was accepted
-pub run-levels-carried : (w₀ : World) (cs : List Call) → underWay w₀ cs ≡ true → let w = run w₀ cs in (m : ℕ) → daysIn (w .campaign) standing ≡ 2 ^ m
+pub run-levels-carried : (w₀ : World) (cs : List Call) → underWay w₀ cs ≡ true → let w = run w₀ cs in (m : ℕ) → periodsStanding (w .campaign) ≡ 2 ^ m
     → (room : List ℤ) (tags : List ℕ) (l : Levels) → summaryOutcome (w .campaign) (w .store) (w .sums) room tags .0 ≡ Measured l → Exact (w .campaign) (w .sums) l
 run-levels-carried w₀ cs u m e room tags l =
     let w = run w₀ cs in

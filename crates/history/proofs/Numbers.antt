@@ -1,7 +1,7 @@
--- Document 01, "Numbers to hold it to" and the log example, the samples of its day 1 times 4 as request 2 of document 02 has it, computed from
--- the outcome functions: order 3, taps 3. Assumes nothing.
+-- Document 01, "Numbers to hold it to" and the log example, the samples of its day 1 times 4 as request 2 of document 02 has it, and captures, as
+-- request 1 has them, computed from the outcome functions: order 3, taps 3. Assumes nothing.
 use mathlib.Core.Path.{_≡_, refl}
-use mathlib.Core.List.{List, [], _∷_}
+use mathlib.Core.List.{List, [], _∷_, _++_}
 use mathlib.Core.Bool.{Bool, true, false}
 use Prim.Native.Nat.{ℕ}
 use lib.Count.{ones}
@@ -14,6 +14,8 @@ use Rattle.register.specs.Calls.{tapsAnswer}
 use Rattle.response.specs.Response as formula
 use Rattle.rounding.specs.Rounding.{nearest, rounded}
 use Rattle.finding.specs.Finding.{finding}
+use Rattle.nights.specs.Nights.{term}
+use Rattle.nights.specs.declared.Night.the-variants.{Period, Capture}
 use Rattle.records.specs.Record.{standing, overloaded, dead, state, together, fresh, filed}
 use Rattle.campaign.specs.Calls.{enterOutcome, withdrawOutcome}
 use Rattle.trend.specs.Calls.{responseOutcome}
@@ -26,11 +28,14 @@ abbrev of : ℕ → World
 of C = record { campaign = fresh 3 3 C; store = replicate 14 (pos 0); sums = replicate 7 (pos 0) }
 
 abbrev verdict : World → ℕ → List ℤ → Verdict
-verdict w d y = enterOutcome (w .campaign) (w .store) (w .sums) d y .0 .entry .verdict
+verdict w d y = enterOutcome (w .campaign) (w .store) (w .sums) d Period y .0 .entry .verdict
+
+abbrev captured : World → ℕ → ℕ → List ℤ → Verdict
+captured w d m y = enterOutcome (w .campaign) (w .store) (w .sums) d (Capture m) y .0 .entry .verdict
 
 -- the state that the entry leaves its day in
 abbrev leaves : World → ℕ → List ℤ → ℕ
-leaves w d y = state (enterOutcome (w .campaign) (w .store) (w .sums) d y .0 .campaign) d
+leaves w d y = state (enterOutcome (w .campaign) (w .store) (w .sums) d Period y .0 .campaign) d
 
 -- seven samples, the first of them z
 abbrev with : ℤ → List ℤ
@@ -57,14 +62,14 @@ pub record Entries : Type 0 where
   pub day-367 : verdict (of 2) 367 (with (pos 8)) ≡ Refused 10
   pub day-366 : verdict (of 2) 366 (with (pos 8)) ≡ Kept 0
   pub six-samples : verdict (of 2) 1 (replicate 6 (pos 0)) ≡ Refused 5
-  pub again : verdict (after (of 2) (enter 1 (with (pos 8)))) 1 (with (pos 8)) ≡ Refused 11
+  pub again : verdict (after (of 2) (enter 1 Period (with (pos 8)))) 1 (with (pos 8)) ≡ Refused 11
   -- a dead day needs no slot when all are used, nor does an overloaded one
-  pub no-slot : verdict (after (of 1) (enter 1 (with (pos 8)))) 2 (with (pos 8)) ≡ Refused 12
-  pub dead-all-used : verdict (after (of 1) (enter 1 (with (pos 8)))) 2 (with (pos 7)) ≡ Dead
-  pub loud-all-used : verdict (after (of 1) (enter 1 (with (pos 8)))) 2 (with (pos 8388607)) ≡ Overloaded 0
+  pub no-slot : verdict (after (of 1) (enter 1 Period (with (pos 8)))) 2 (with (pos 8)) ≡ Refused 12
+  pub dead-all-used : verdict (after (of 1) (enter 1 Period (with (pos 8)))) 2 (with (pos 7)) ≡ Dead
+  pub loud-all-used : verdict (after (of 1) (enter 1 Period (with (pos 8)))) 2 (with (pos 8388607)) ≡ Overloaded 0
 
 pub entries : Entries
-unfolding enterOutcome finding together tapsAnswer period seek some every many total sum table put putAt window step dot ones
+unfolding enterOutcome term finding together tapsAnswer period seek some every many total sum table put putAt window step dot ones
 entries =
     record {
       may-stand = refl;
@@ -86,15 +91,22 @@ entries =
 
 -- ---- a sample that stands
 
--- whether a record with day 1 in its only slot, the day's first sample z and the sums agreeing, holds together
-abbrev holds-with : ℤ → Bool
-holds-with z = together (filed (fresh 3 3 1) 1 standing 0 1) (with z) (with z)
+-- whether a record with day 1 in its only slot, of m periods, the day's first sample z and the sums agreeing, holds together
+abbrev holds-with : ℕ → ℤ → Bool
+holds-with m z = together (filed (fresh 3 3 1) 1 standing 0 1 m) (with z) (with z)
 
 pub record InASlot : Type 0 where
-  pub under-the-upper-rail : holds-with (pos 8388606) ≡ true
-  pub at-the-upper-rail : holds-with (pos 8388607) ≡ false
-  pub over-the-lower-rail : holds-with (negsuc 8388606) ≡ true
-  pub at-the-lower-rail : holds-with (negsuc 8388607) ≡ false
+  pub under-the-upper-rail : holds-with 1 (pos 8388606) ≡ true
+  pub at-the-upper-rail : holds-with 1 (pos 8388607) ≡ false
+  pub over-the-lower-rail : holds-with 1 (negsuc 8388606) ≡ true
+  pub at-the-lower-rail : holds-with 1 (negsuc 8388607) ≡ false
+  -- sixteen times as much in a slot of 16 periods
+  pub the-most : (holds-with 16 (pos 134217696) ≡ true) × (holds-with 16 (pos 134217697) ≡ false)
+  pub the-least : (holds-with 16 (negsuc 134217711) ≡ true) × (holds-with 16 (negsuc 134217712) ≡ false)
+  -- a used slot has 1 to 16 periods, and a free one none
+  pub no-periods : holds-with 0 (pos 0) ≡ false
+  pub too-many : holds-with 17 (pos 0) ≡ false
+  pub free-with-periods : together (filed (fresh 3 3 1) 1 standing 1 0 1) (with (pos 0)) (with (pos 0)) ≡ false
 
 pub in-a-slot : InASlot
 unfolding together tapsAnswer period seek every many total sum window step dot ones
@@ -104,6 +116,11 @@ in-a-slot =
       at-the-upper-rail = refl;
       over-the-lower-rail = refl;
       at-the-lower-rail = refl;
+      the-most = (refl, refl);
+      the-least = (refl, refl);
+      no-periods = refl;
+      too-many = refl;
+      free-with-periods = refl;
     }
 
 -- ---- the log example
@@ -119,8 +136,8 @@ asked w = responseOutcome (w .campaign) (w .store) (w .sums) (replicate 7 (pos 9
 
 pub record LogExample : Type 0 where
   pub kept : verdict (of 2) 1 day-1 ≡ Kept 0
-  pub dead : verdict (run (of 2) (enter 1 day-1 ∷ [])) 2 day-2 ≡ Dead
-  pub response : asked (run (of 2) (enter 2 day-2 ∷ enter 1 day-1 ∷ []))
+  pub dead : verdict (run (of 2) (enter 1 Period day-1 ∷ [])) 2 day-2 ≡ Dead
+  pub response : asked (run (of 2) (enter 2 Period day-2 ∷ enter 1 Period day-1 ∷ []))
       ≡ (
         0,
         pos 64 ∷ pos 0 ∷ negsuc 31 ∷ pos 0 ∷ pos 0 ∷ pos 0 ∷ pos 0 ∷ [],
@@ -128,10 +145,67 @@ pub record LogExample : Type 0 where
         replicate 8 (pos 0),
         replicate 7 0,
       )
-  pub withdrawal : answer (run (of 2) (enter 2 day-2 ∷ enter 1 day-1 ∷ [])) (withdraw 1) ≡ 0
-  pub nothing : asked (run (of 2) (withdraw 1 ∷ enter 2 day-2 ∷ enter 1 day-1 ∷ []))
+  pub withdrawal : answer (run (of 2) (enter 2 Period day-2 ∷ enter 1 Period day-1 ∷ [])) (withdraw 1) ≡ 0
+  pub nothing : asked (run (of 2) (withdraw 1 ∷ enter 2 Period day-2 ∷ enter 1 Period day-1 ∷ []))
       ≡ (14, replicate 7 (pos 9), replicate 7 (pos 9), replicate 8 (pos 9), replicate 7 9)
 
 pub log-example : LogExample
-unfolding run enterOutcome finding withdrawOutcome responseOutcome together tapsAnswer period seek some every many total sum sign table put putAt nearest formula.response formula.correlation wave bit window step dot ones
+unfolding run enterOutcome term finding withdrawOutcome responseOutcome together tapsAnswer period seek some every many total sum sign table put putAt nearest formula.response formula.correlation wave bit window step dot ones
 log-example = record { kept = refl; dead = refl; response = refl; withdrawal = refl; nothing = refl }
+
+-- ---- captures
+
+-- a run-in at the rail
+abbrev run-in : List ℤ
+run-in = replicate 7 (pos 8388607)
+
+abbrev night : List ℤ
+night =
+    run-in ++ negsuc 3 ∷ negsuc 11 ∷ negsuc 3 ∷ pos 12 ∷ pos 12 ∷ negsuc 11 ∷ pos 4
+    ∷ negsuc 2 ∷ negsuc 12 ∷ negsuc 1 ∷ pos 12 ∷ pos 10 ∷ negsuc 10 ∷ pos 3 ∷ []
+
+pub record Captures : Type 0 where
+  -- the rails of the run-in are no overload, and its samples are not in the sums
+  pub kept : captured (of 2) 1 2 night ≡ Kept 0
+  pub response : asked (run (of 2) (enter 1 (Capture 2) night ∷ []))
+      ≡ (
+        0,
+        pos 122 ∷ pos 0 ∷ negsuc 65 ∷ pos 4 ∷ pos 0 ∷ negsuc 1 ∷ pos 6 ∷ [],
+        pos 8 ∷ pos 0 ∷ negsuc 3 ∷ pos 0 ∷ pos 0 ∷ pos 0 ∷ pos 0 ∷ [],
+        replicate 8 (pos 0),
+        replicate 7 0,
+      )
+  -- one period and a capture in one mean: 186 over 3 periods of 8, and not over 2 days
+  pub both : asked (run (of 2) (enter 2 Period day-1 ∷ enter 1 (Capture 2) night ∷ [])) .2
+      ≡ pos 8 ∷ pos 0 ∷ negsuc 3 ∷ pos 0 ∷ pos 0 ∷ pos 0 ∷ pos 0 ∷ []
+  -- the place of an overload counts from the first sample after the run-in
+  pub first-place : captured (of 2) 1 1 (run-in ++ with (pos 8388607)) ≡ Overloaded 0
+  pub last-place : captured (of 2) 1 2 (replicate 20 (pos 0) ++ negsuc 8388607 ∷ []) ≡ Overloaded 13
+  -- the spread is that of all periods together, and not of the run-in
+  pub dead : captured (of 2) 1 2 (run-in ++ with (pos 7) ++ with (pos 6)) ≡ Dead
+  pub not-dead : captured (of 2) 1 2 (run-in ++ with (pos 7) ++ with (negsuc 0)) ≡ Kept 0
+  pub no-periods : captured (of 2) 1 0 run-in ≡ Refused 18
+  pub seventeen : captured (of 2) 1 17 night ≡ Refused 18
+  pub one-short : captured (of 2) 1 2 (run-in ++ run-in) ≡ Refused 5
+  -- 7 speaks of the run-in too
+  pub out-of-range : captured (of 2) 1 1 (with (pos 8388608) ++ with (pos 8)) ≡ Refused 7
+  -- withdrawn, its slot has no periods
+  pub withdrawal : run (of 2) (withdraw 1 ∷ enter 1 (Capture 2) night ∷ []) .campaign .periods ≡ replicate 64 0
+
+pub captures : Captures
+unfolding run enterOutcome term finding withdrawOutcome responseOutcome together tapsAnswer period seek some every many total sum sign table put putAt nearest formula.response formula.correlation wave bit window step dot ones
+captures =
+    record {
+      kept = refl;
+      response = refl;
+      both = refl;
+      first-place = refl;
+      last-place = refl;
+      dead = refl;
+      not-dead = refl;
+      no-periods = refl;
+      seventeen = refl;
+      one-short = refl;
+      out-of-range = refl;
+      withdrawal = refl;
+    }

@@ -1,7 +1,7 @@
--- Document 01, "Order of checks", call by call: the checks' numbers as they stand, and for each two neighbours an input to which both apply, with
+-- Document 01, "Order of checks", with document 02, request 1, call by call: the checks' numbers as they stand, and for each two neighbours an input to which both apply, with
 -- its answer. Order 2, so that P is 3, and one slot. Default taps and counts have one check. Assumes nothing.
 use mathlib.Core.Path.{_≡_, refl}
-use mathlib.Core.List.{List, [], _∷_}
+use mathlib.Core.List.{List, [], _∷_, _++_}
 use Prim.Native.Nat.{ℕ}
 use lib.Count.{ones}
 use lib.IntN.{ℤ, pos}
@@ -15,6 +15,9 @@ use Rattle.player.specs.Calls.{stepChecks, newOutcome, stepOutcome, playOutcome
 use Rattle.response.proofs.Order as response
 use Rattle.prediction.proofs.Order as prediction
 use Rattle.finding.specs.Finding.{finding}
+use Rattle.nights.specs.Nights.{term}
+use Rattle.nights.specs.declared.Night.{Night}
+use Rattle.nights.specs.declared.Night.the-variants.{Period, Capture}
 use Rattle.records.specs.Record.{standing, together, fresh, filed}
 use Rattle.campaign.specs.Calls.{startChecks, startOutcome, enterChecks, enterOutcome, withdrawChecks, withdrawOutcome}
 use Rattle.trend.specs.Calls.{responseChecks, responseOutcome, summaryChecks, summaryOutcome, summaryNumber}
@@ -97,17 +100,17 @@ abbrev with : ℤ → List ℤ
 with z = z ∷ pos 0 ∷ pos 0 ∷ []
 
 -- an entry to a record of no days; to one that does not hold together, its sums being none; and to one whose only slot day 1 has
-abbrev entry-to : Campaign → List ℤ → List ℤ → ℕ → List ℤ → Verdict
-entry-to c store sums d y = enterOutcome c store sums d y .0 .entry .verdict
+abbrev entry-to : Campaign → List ℤ → List ℤ → ℕ → Night → List ℤ → Verdict
+entry-to c store sums d night y = enterOutcome c store sums d night y .0 .entry .verdict
 
-abbrev empty : ℕ → List ℤ → Verdict
+abbrev empty : ℕ → Night → List ℤ → Verdict
 empty = entry-to (fresh 2 3 1) zeros zeros
 
-abbrev apart : ℕ → List ℤ → Verdict
+abbrev apart : ℕ → Night → List ℤ → Verdict
 apart = entry-to (fresh 2 3 1) zeros barely
 
-abbrev full : ℕ → List ℤ → Verdict
-full = entry-to (filed (fresh 2 3 1) 1 standing 0 1) barely barely
+abbrev full : ℕ → Night → List ℤ → Verdict
+full = entry-to (filed (fresh 2 3 1) 1 standing 0 1 1) barely barely
 
 -- the other calls on the first two, told by their sums
 abbrev withdrew : List ℤ → ℕ → ℕ
@@ -127,14 +130,25 @@ pub record Campaigns : Type 0 where
   pub start-3-4 : started 2 2 1 3 3 ≡ 3
   pub start-4-9 : started 2 1 0 3 3 ≡ 4
   pub start-9-6 : (started 2 3 65 3 3 ≡ 9) × (started 2 3 0 3 2 ≡ 9)
-  pub enter : (c : Campaign) (store sums : List ℤ) (d : ℕ) (y : List ℤ) → numbers (enterChecks c store sums d y) ≡ 15 ∷ 10 ∷ 5 ∷ 7 ∷ 11 ∷ []
-  pub enter-15-10 : apart 0 barely ≡ Refused 15
-  pub enter-10-5 : empty 0 (pos 1 ∷ []) ≡ Refused 10
-  pub enter-5-7 : empty 2 (pos 8388608 ∷ []) ≡ Refused 5
-  pub enter-7-11 : full 1 (with (pos 8388608)) ≡ Refused 7
-  pub enter-11-verdict : (full 1 (with (pos 8388607)) ≡ Refused 11) × (full 1 dithers ≡ Refused 11)
-  pub overloaded-dead : (empty 2 (replicate 3 (pos 8388607)) ≡ Overloaded 0) × (empty 2 (pos 8388600 ∷ pos 8388607 ∷ pos 8388603 ∷ []) ≡ Overloaded 1)
-  pub enter-verdict-12 : (full 2 (with (pos 8388607)) ≡ Overloaded 0) × (full 2 dithers ≡ Dead) × (full 2 barely ≡ Refused 12)
+  pub enter : (c : Campaign) (store sums : List ℤ) (d : ℕ) (night : Night) (y : List ℤ)
+      → numbers (enterChecks c store sums d night y) ≡ 15 ∷ 10 ∷ 18 ∷ 5 ∷ 7 ∷ 11 ∷ []
+  pub enter-15-10 : apart 0 Period barely ≡ Refused 15
+  pub enter-10-5 : empty 0 Period (pos 1 ∷ []) ≡ Refused 10
+  pub enter-5-7 : empty 2 Period (pos 8388608 ∷ []) ≡ Refused 5
+  pub enter-7-11 : full 1 Period (with (pos 8388608)) ≡ Refused 7
+  pub enter-11-verdict : (full 1 Period (with (pos 8388607)) ≡ Refused 11) × (full 1 Period dithers ≡ Refused 11)
+  pub overloaded-dead : (empty 2 Period (replicate 3 (pos 8388607)) ≡ Overloaded 0)
+      × (empty 2 Period (pos 8388600 ∷ pos 8388607 ∷ pos 8388603 ∷ []) ≡ Overloaded 1)
+  pub enter-verdict-12 : (full 2 Period (with (pos 8388607)) ≡ Overloaded 0) × (full 2 Period dithers ≡ Dead) × (full 2 Period barely ≡ Refused 12)
+  -- of a capture
+  pub capture-15-10 : apart 0 (Capture 17) barely ≡ Refused 15
+  pub capture-10-18 : (empty 0 (Capture 0) barely ≡ Refused 10) × (empty 367 (Capture 17) barely ≡ Refused 10)
+  pub capture-18-5 : (empty 2 (Capture 0) barely ≡ Refused 18) × (empty 2 (Capture 17) barely ≡ Refused 18)
+  pub capture-5-7 : empty 2 (Capture 1) (with (pos 8388608)) ≡ Refused 5
+  pub capture-7-11 : full 1 (Capture 1) (with (pos 8388608) ++ barely) ≡ Refused 7
+  pub capture-11-verdict : (full 1 (Capture 1) (zeros ++ with (pos 8388607)) ≡ Refused 11) × (full 1 (Capture 1) (zeros ++ dithers) ≡ Refused 11)
+  pub capture-verdict-12 : (full 2 (Capture 1) (zeros ++ with (pos 8388607)) ≡ Overloaded 0) × (full 2 (Capture 1) (zeros ++ dithers) ≡ Dead)
+      × (full 2 (Capture 1) (zeros ++ barely) ≡ Refused 12)
   pub withdraw : (c : Campaign) (store sums : List ℤ) (d : ℕ) → numbers (withdrawChecks c store sums d) ≡ 15 ∷ 10 ∷ 13 ∷ []
   pub withdraw-15-10 : withdrew barely 0 ≡ 15
   pub withdraw-10-13 : withdrew zeros 0 ≡ 10
@@ -147,7 +161,7 @@ pub record Campaigns : Type 0 where
   pub summary-6-nothing : (summed zeros 3 3 ≡ 6) × (summed zeros 4 2 ≡ 6) × (summed zeros 4 3 ≡ 0)
 
 pub campaigns : Campaigns
-unfolding startOutcome enterOutcome finding withdrawOutcome responseOutcome summaryOutcome together tapsAnswer period seek some every many total sum table put putAt window step dot ones
+unfolding startOutcome enterOutcome term finding withdrawOutcome responseOutcome summaryOutcome together tapsAnswer period seek some every many total sum table put putAt window step dot ones
 campaigns =
     record {
       start = λ N taps C store sums. refl;
@@ -156,7 +170,7 @@ campaigns =
       start-3-4 = refl;
       start-4-9 = refl;
       start-9-6 = (refl, refl);
-      enter = λ c store sums d y. refl;
+      enter = λ c store sums d night y. refl;
       enter-15-10 = refl;
       enter-10-5 = refl;
       enter-5-7 = refl;
@@ -164,6 +178,13 @@ campaigns =
       enter-11-verdict = (refl, refl);
       overloaded-dead = (refl, refl);
       enter-verdict-12 = (refl, refl, refl);
+      capture-15-10 = refl;
+      capture-10-18 = (refl, refl);
+      capture-18-5 = (refl, refl);
+      capture-5-7 = refl;
+      capture-7-11 = refl;
+      capture-11-verdict = (refl, refl);
+      capture-verdict-12 = (refl, refl, refl);
       withdraw = λ c store sums d. refl;
       withdraw-15-10 = refl;
       withdraw-10-13 = refl;

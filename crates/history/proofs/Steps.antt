@@ -7,22 +7,24 @@ use Prim.Native.Nat.{ℕ, _*_, _≤_, _<_}
 use native.Mathlib.Omega.{arith}
 use borrow.Author.Tests.{eqb-true, eqb-false, not-false}
 use lib.IntN.{ℤ, pos, _+ℤ_, _-ℤ_}
-use lib.ListN.{length}
 use Rattle.sums.specs.Lists.{at, table, put, putAt}
 use Rattle.sums.proofs.First.{Passed, outcome-cases, accepts}
 use Rattle.register.specs.Register.{P}
 use Rattle.register.specs.Calls.{answerOf}
-use Rattle.samples.specs.Samples.{clearedWide, inside}
+use Rattle.samples.specs.Samples.{clearedWide, within}
 use Rattle.finding.specs.Finding.{finding}
+use Rattle.nights.specs.Nights.{periodsOf}
+use Rattle.nights.specs.declared.Night.{Night}
+use Rattle.nights.proofs.Terms.{term-within}
 use Rattle.records.specs.Record.{standing, overloaded, dead, withdrawn, state, slot, base, sample, together, fresh, marked, filed}
-use Rattle.campaign.specs.Calls.{startChecks, startOutcome, enterChecks, withdrawChecks, lowestFree, slotOfDay, withdrawnOutcome, enterOutcome, withdrawOutcome, stateOf, verdictNumber}
+use Rattle.campaign.specs.Calls.{startChecks, startOutcome, enterChecks, settledOf, termOf, withdrawChecks, lowestFree, slotOfDay, withdrawnOutcome, enterOutcome, withdrawOutcome, stateOf, verdictNumber}
 use Rattle.history.specs.Run.{World}
 use Rattle.records.specs.declared.Campaign.{Campaign}
 use Rattle.campaign.specs.declared.Started.{Started}
 use Rattle.campaign.specs.declared.Entered.{Entered}
 use Rattle.campaign.specs.declared.Withdrawn.{Withdrawn}
 use Rattle.campaign.proofs.EntryCases.{by-cases}
-use Rattle.campaign.proofs.Passing.{Begins, begins, in-day, lowest-free, slot-of-day}
+use Rattle.campaign.proofs.Passing.{Begins, begins, in-day, lowest-free, slot-of-day, enters, judged-long, judged-ranged}
 use Rattle.records.proofs.Holding.{holds-together}
 use Rattle.records.proofs.Refiling.{Day}
 use Rattle.finding.proofs.Exactly.{kept-inside}
@@ -45,21 +47,22 @@ starting w N taps C =
 -- ---- an entry
 
 -- what it comes to: refused, set aside, or kept
-pub data Entering (w : World) (d : ℕ) (y : List ℤ) (o : Entered × List ℤ × List ℤ) : Type 0 where
-  refused : (verdictNumber (o .0 .entry .verdict) ≡ 0 → ⊥) → o .0 .campaign ≡ w .campaign → o .1 ≡ w .store → o .2 ≡ w .sums → Entering w d y o
-  aside : (q : ℕ) → verdictNumber (o .0 .entry .verdict) ≡ 0 → stateOf (finding y) ≡ q
+pub data Entering (w : World) (d : ℕ) (night : Night) (y : List ℤ) (o : Entered × List ℤ × List ℤ) : Type 0 where
+  refused : (verdictNumber (o .0 .entry .verdict) ≡ 0 → ⊥) → o .0 .campaign ≡ w .campaign → o .1 ≡ w .store → o .2 ≡ w .sums → Entering w d night y o
+  aside : (q : ℕ) → verdictNumber (o .0 .entry .verdict) ≡ 0 → stateOf (finding (settledOf (w .campaign) night y)) ≡ q
       → (q ≡ standing → ⊥) → q ≤ withdrawn → Day d → (state (w .campaign) d ≡ standing → ⊥)
-      → o .0 .campaign ≡ marked (w .campaign) d q → o .1 ≡ w .store → o .2 ≡ w .sums → Entering w d y o
-  kept : (k : ℕ) → verdictNumber (o .0 .entry .verdict) ≡ 0 → stateOf (finding y) ≡ standing
+      → o .0 .campaign ≡ marked (w .campaign) d q → o .1 ≡ w .store → o .2 ≡ w .sums → Entering w d night y o
+  kept : (k : ℕ) → verdictNumber (o .0 .entry .verdict) ≡ 0 → stateOf (finding (settledOf (w .campaign) night y)) ≡ standing
       → Day d → (state (w .campaign) d ≡ standing → ⊥) → k < w .campaign .capacity → slot (w .campaign) k ≡ 0
-      → length y ≡ P (w .campaign .order) → ((j : ℕ) → j < P (w .campaign .order) → inside (at y j) ≡ true)
-      → o .0 .campaign ≡ filed (w .campaign) d standing k d → o .1 ≡ putAt (base (w .campaign) k) y (w .store)
-      → o .2 ≡ put (table (P (w .campaign .order)) (λ j. at (w .sums) j +ℤ at y j)) (w .sums) → Entering w d y o
+      → 1 ≤ periodsOf night → periodsOf night ≤ 16
+      → ((j : ℕ) → j < P (w .campaign .order) → within (periodsOf night) (at (termOf (w .campaign) night y) j) ≡ true)
+      → o .0 .campaign ≡ filed (w .campaign) d standing k d (periodsOf night) → o .1 ≡ putAt (base (w .campaign) k) (termOf (w .campaign) night y) (w .store)
+      → o .2 ≡ put (table (P (w .campaign .order)) (λ j. at (w .sums) j +ℤ at (termOf (w .campaign) night y) j)) (w .sums) → Entering w d night y o
 
-pub entering : (w : World) (d : ℕ) (y : List ℤ) → together (w .campaign) (w .store) (w .sums) ≡ true
-    → Entering w d y (enterOutcome (w .campaign) (w .store) (w .sums) d y)
-entering w d y t =
-    by-cases c (w .store) (w .sums) d y (Entering w d y)
+pub entering : (w : World) (d : ℕ) (night : Night) (y : List ℤ) → together (w .campaign) (w .store) (w .sums) ≡ true
+    → Entering w d night y (enterOutcome (w .campaign) (w .store) (w .sums) d night y)
+entering w d night y t =
+    by-cases c (w .store) (w .sums) d night y (Entering w d night y)
     (record {
       refused = λ n h _. refused h refl refl refl;
       loud = λ p q e. aside overloaded refl (ap stateOf e) (λ x. omega arith) (omega arith) (day p) (down p) refl refl refl;
@@ -67,26 +70,26 @@ entering w d y t =
       full = λ p e f. refused (λ x. omega arith) refl refl refl;
       kept = λ p e few.
           let k = lowest-free c (holds-together c (w .store) (w .sums) .0 t .filed) few in
-          let long = eqb-true (length y) (P (c .order)) (not-false _ (p .1 .1 .0)) in
-          kept (lowestFree c) refl (ap stateOf e) (day p) (down p) (k .0) (k .1) long
-          (λ j l. kept-inside y e (p .1 .1 .1 .0) j (omega (arith, long))) refl refl refl;
+          let g = enters c (w .store) (w .sums) d night y (accepts (enterChecks c (w .store) (w .sums) d night y) p) in
+          kept (lowestFree c) refl (ap stateOf e) (day p) (down p) (k .0) (k .1) (g .least) (g .most)
+          (term-within (P (c .order)) (periodsOf night) (settledOf c night y) (λ i l. kept-inside (settledOf c night y) e (judged-ranged g) i (omega (arith, judged-long g)))) refl refl refl;
     })
   where
     c : Campaign
     c = w .campaign
 
-    day : Passed (enterChecks (w .campaign) (w .store) (w .sums) d y) → Day d
+    day : Passed (enterChecks (w .campaign) (w .store) (w .sums) d night y) → Day d
     day p = in-day d (p .1 .0)
 
-    down : Passed (enterChecks (w .campaign) (w .store) (w .sums) d y) → state (w .campaign) d ≡ standing → ⊥
-    down p = eqb-false (state (w .campaign) d) standing (p .1 .1 .1 .1 .0)
+    down : Passed (enterChecks (w .campaign) (w .store) (w .sums) d night y) → state (w .campaign) d ≡ standing → ⊥
+    down p = eqb-false (state (w .campaign) d) standing (p .1 .1 .1 .1 .1 .0)
 
 -- ---- a withdrawal
 
 pub data Withdrawing (w : World) (d : ℕ) (o : Withdrawn × List ℤ × List ℤ) : Type 0 where
   refused : (o .0 .answer ≡ 0 → ⊥) → o .0 .campaign ≡ w .campaign → o .1 ≡ w .store → o .2 ≡ w .sums → Withdrawing w d o
   freed : (k : ℕ) → o .0 .answer ≡ 0 → Day d → state (w .campaign) d ≡ standing → k < w .campaign .capacity → slot (w .campaign) k ≡ d
-      → o .0 .campaign ≡ filed (w .campaign) d withdrawn k 0
+      → o .0 .campaign ≡ filed (w .campaign) d withdrawn k 0 0
       → o .1 ≡ putAt (base (w .campaign) k) (table (P (w .campaign .order)) (λ _. pos 0)) (w .store)
       → o .2 ≡ put (table (P (w .campaign .order)) (λ j. at (w .sums) j -ℤ sample (w .campaign) (w .store) k j)) (w .sums) → Withdrawing w d o
 

@@ -17,7 +17,7 @@ stays-under-way w call before u =
 pub same-campaign : (w : World) (call : Call) (before : List Call) → starts call ≡ false → begun w (call ∷ before) ≡ begun w before
 unfolding begun
 same-campaign w (start N taps C) before e = absurd (subst T e tt)
-same-campaign w (enter d y) before _ = if-alike (accepted (run w before) (enter d y)) (begun w before)
+same-campaign w (enter d night y) before _ = if-alike (accepted (run w before) (enter d night y)) (begun w before)
 same-campaign w (withdraw d) before _ = if-alike (accepted (run w before) (withdraw d)) (begun w before)
 same-campaign w counts before _ = if-alike (accepted (run w before) counts) (begun w before)
 same-campaign w (response r mean room tags) before _ = if-alike (accepted (run w before) (response r mean room tags)) (begun w before)

@@ -1,4 +1,4 @@
--- A kept entry followed at once by its withdrawal gives back store, sums and slots bit for bit. Assumes nothing.
+-- A kept entry followed at once by its withdrawal gives back store, sums, slots and periods bit for bit. Assumes nothing.
 use mathlib.Core.Path.{_≡_, sym, ap, _∙_}
 use mathlib.Core.Bool.{true, false, not}
 use mathlib.Core.List.{List}
@@ -18,8 +18,11 @@ use Rattle.sums.proofs.Ring.{ring}
 use Rattle.sums.proofs.Tables.{at-put, at-tail, at-table, table-ext, length-put, length-table}
 use Rattle.register.specs.Register.{P}
 use Rattle.records.specs.Record.{standing, withdrawn, state, slot, base, sample, together, filed}
-use Rattle.samples.specs.Samples.{inside}
-use Rattle.campaign.specs.Calls.{dayOut, withdrawChecks, slotOfDay, withdrawnOutcome, withdrawOutcome, enterOutcome}
+use Rattle.samples.specs.Samples.{within}
+use Rattle.nights.specs.Nights.{periodsOf}
+use Rattle.nights.specs.declared.Night.{Night}
+use Rattle.nights.proofs.Terms.{term-long}
+use Rattle.campaign.specs.Calls.{dayOut, settledOf, termOf, withdrawChecks, slotOfDay, withdrawnOutcome, withdrawOutcome, enterOutcome}
 use Rattle.history.specs.Run.{World, enter, withdraw, after, answer, makes}
 use Rattle.records.specs.declared.Campaign.{Campaign}
 use Rattle.records.proofs.Holding.{Together, holds-together}
@@ -89,12 +92,12 @@ taken-off n y sums h =
 
 -- ---- the two calls
 
-module _ (c : Campaign) (store sums : List ℤ) (z : Sized c) (h : Together c store sums) (d k : ℕ) (y : List ℤ) (r : Day d)
-    (n : state c d ≡ standing → ⊥) (l : k < c .capacity) (e : slot c k ≡ 0) (long : length y ≡ P (c .order))
-    (good : (j : ℕ) → j < P (c .order) → inside (at y j) ≡ true) where
+module _ (c : Campaign) (store sums : List ℤ) (z : Sized c) (h : Together c store sums) (d k m : ℕ) (y : List ℤ) (r : Day d)
+    (n : state c d ≡ standing → ⊥) (l : k < c .capacity) (e : slot c k ≡ 0) (least : 1 ≤ m) (most : m ≤ 16)
+    (long : length y ≡ P (c .order)) (good : (j : ℕ) → j < P (c .order) → within m (at y j) ≡ true) where
   -- the record, the store and the sums after the entry
   c₁ : Campaign
-  c₁ = filed c d standing k d
+  c₁ = filed c d standing k d m
 
   store₁ : List ℤ
   store₁ = putAt (base c k) y store
@@ -102,27 +105,27 @@ module _ (c : Campaign) (store sums : List ℤ) (z : Sized c) (h : Together c st
   sums₁ : List ℤ
   sums₁ = put (table (P (c .order)) (λ j. at sums j +ℤ at y j)) sums
 
-  holds₁ : Together (filed c d standing k d) (putAt (base c k) y store) (put (table (P (c .order)) (λ j. at sums j +ℤ at y j)) sums)
-  holds₁ = together-kept c store sums z d k r h l e n y long good
+  holds₁ : Together (filed c d standing k d m) (putAt (base c k) y store) (put (table (P (c .order)) (λ j. at sums j +ℤ at y j)) sums)
+  holds₁ = together-kept c store sums z d k m r h l e n least most y long good
 
-  stands₁ : state (filed c d standing k d) d ≡ standing
-  stands₁ = state-same c z d standing r k d
+  stands₁ : state (filed c d standing k d m) d ≡ standing
+  stands₁ = state-same c z d standing r k d m
 
   -- the withdrawal finds the slot
-  same-slot : slotOfDay (filed c d standing k d) d ≡ k
+  same-slot : slotOfDay (filed c d standing k d m) d ≡ k
   same-slot =
-      let s = slot-of-day (filed c d standing k d) (holds₁ .filed) d r stands₁ in
-      slot-unique (filed c d standing k d) (holds₁ .filed) d _ k r stands₁ (s .0) l (s .1) (slot-same c z d standing r k d (omega (arith, h .filed .most)))
+      let s = slot-of-day (filed c d standing k d m) (holds₁ .filed) d r stands₁ in
+      slot-unique (filed c d standing k d m) (holds₁ .filed) d _ k r stands₁ (s .0) l (s .1) (slot-same c z d standing r k d m (omega (arith, h .filed .most)))
 
   back : withdrawOutcome c₁ store₁ sums₁ d
       ≡ (
-        record { answer = 0; campaign = filed (filed c d standing k d) d withdrawn k 0 },
+        record { answer = 0; campaign = filed (filed c d standing k d m) d withdrawn k 0 0 },
         putAt (base c k) (table (P (c .order)) (λ _. pos 0)) store₁,
         put (table (P (c .order)) (λ j. at sums₁ j -ℤ sample c store₁ k j)) sums₁,
       )
   unfolding c₁ store₁ sums₁
   back =
-      withdraw-accepted (filed c d standing k d) store₁ sums₁ (holds-together (filed c d standing k d) store₁ sums₁ .1 holds₁) d r stands₁
+      withdraw-accepted (filed c d standing k d m) store₁ sums₁ (holds-together (filed c d standing k d m) store₁ sums₁ .1 holds₁) d r stands₁
       ∙ rw same-slot
 
   store-back : withdrawOutcome c₁ store₁ sums₁ d .1 ≡ store
@@ -152,26 +155,38 @@ module _ (c : Campaign) (store sums : List ℤ) (z : Sized c) (h : Together c st
       ∙ set-set (c .slots) k d 0
       ∙ ap (set (c .slots) k) (sym e) ∙ set-getD (c .slots) k 0
 
+  periods-back : withdrawOutcome c₁ store₁ sums₁ d .0 .campaign .periods ≡ c .periods
+  periods-back =
+      ap (λ o. o .0 .campaign .periods) back
+      ∙ set-set (c .periods) k m 0
+      ∙ ap (set (c .periods) k) (sym (h .filed .uncounted k (omega (arith, h .filed .most)) e)) ∙ set-getD (c .periods) k 0
+
 -- 01: a kept entry followed at once by its withdrawal
 pub record Undone (w w′ : World) : Type 0 where
   pub store : w′ .store ≡ w .store
   pub sums : w′ .sums ≡ w .sums
   pub slots : w′ .campaign .slots ≡ w .campaign .slots
+  pub periods : w′ .campaign .periods ≡ w .campaign .periods
 
-pub undone : (w : World) → Sized (w .campaign) → together (w .campaign) (w .store) (w .sums) ≡ true → (d : ℕ) (y : List ℤ)
-    → answer w (enter d y) ≡ 0 → makes (enter d y) ≡ standing → Undone w (after (after w (enter d y)) (withdraw d))
+pub undone : (w : World) → Sized (w .campaign) → together (w .campaign) (w .store) (w .sums) ≡ true → (d : ℕ) (night : Night) (y : List ℤ)
+    → answer w (enter d night y) ≡ 0 → makes w (enter d night y) ≡ standing → Undone w (after (after w (enter d night y)) (withdraw d))
 unfolding c₁ store₁ sums₁
-undone w z t d y a m = go (entering w d y t)
+undone w z t d night y a m = go (entering w d night y t)
   where
     h : Together (w .campaign) (w .store) (w .sums)
     h = holds-together (w .campaign) (w .store) (w .sums) .0 t
 
-    go : Entering w d y (enterOutcome (w .campaign) (w .store) (w .sums) d y) → Undone w (after (after w (enter d y)) (withdraw d))
+    go : Entering w d night y (enterOutcome (w .campaign) (w .store) (w .sums) d night y) → Undone w (after (after w (enter d night y)) (withdraw d))
     go (steps.refused n e g i) = absurd (n a)
     go (steps.aside q b v n l r f e g i) = absurd (n (sym v ∙ m))
-    go (steps.kept k b v r n l f long good e g i) =
+    go (steps.kept k b v r n l f least most good e g i) =
+        let c = w .campaign in
+        let u = periodsOf night in
+        let x = termOf c night y in
+        let long = term-long (P (c .order)) u (settledOf c night y) in
         rw (e, g, i) (record {
-          store = store-back (w .campaign) (w .store) (w .sums) z h d k y r n l f long good;
-          sums = sums-back (w .campaign) (w .store) (w .sums) z h d k y r n l f long good;
-          slots = slots-back (w .campaign) (w .store) (w .sums) z h d k y r n l f long good;
+          store = store-back c (w .store) (w .sums) z h d k u x r n l f least most long good;
+          sums = sums-back c (w .store) (w .sums) z h d k u x r n l f least most long good;
+          slots = slots-back c (w .store) (w .sums) z h d k u x r n l f least most long good;
+          periods = periods-back c (w .store) (w .sums) z h d k u x r n l f least most long good;
         })

@@ -1,15 +1,19 @@
--- Document 01, "A record holds together when": a run of calls, each given the record that the one before handed back and the same lent
+-- Document 01, "A record holds together when", and document 02, request 1: a run of calls, each given the record that the one before handed back and the same lent
 -- memory, untouched between. A start is a call like the others: refused, it leaves the campaign that was under way; accepted, it begins a new
 -- history in the same lent memory. Assumes nothing.
 use mathlib.Core.Path.{_≡_}
 use mathlib.Core.List.{List, [], _∷_, _++_}
 use mathlib.Core.Bool.{Bool, true, false, cond, _&&_, _||_}
-use Prim.Native.Nat.{ℕ}
+use Prim.Native.Nat.{ℕ, _+_, _*_}
 use lib.Dec.{eqb}
 use lib.IntN.{ℤ}
+use Rattle.sums.specs.Sum.{sum}
+use Rattle.sums.specs.Lists.{at}
 use Rattle.finding.specs.Finding.{finding}
+use Rattle.nights.specs.Nights.{periodsOf}
+use Rattle.nights.specs.declared.Night.{Night}
 use Rattle.records.specs.Record.{unseen, withdrawn, fresh}
-use Rattle.campaign.specs.Calls.{startOutcome, enterOutcome, withdrawOutcome, stateOf, verdictNumber}
+use Rattle.campaign.specs.Calls.{startOutcome, settledOf, enterOutcome, withdrawOutcome, stateOf, verdictNumber}
 use Rattle.trend.specs.Calls.{countsOutcome, responseOutcome, summaryOutcome, countsNumber, summaryNumber}
 use Rattle.records.specs.declared.Campaign.{Campaign}
 
@@ -22,7 +26,7 @@ pub record World : Type 0 where
 -- a call with all its arguments but those
 pub data Call : Type 0 where
   start : ℕ → ℕ → ℕ → Call
-  enter : ℕ → List ℤ → Call
+  enter : ℕ → Night → List ℤ → Call
   withdraw : ℕ → Call
   counts : Call
   response : List ℤ → List ℤ → List ℤ → List ℕ → Call
@@ -33,8 +37,8 @@ abbrev pub after : World → Call → World
 after w (start N taps C) =
     let o = startOutcome (w .campaign) N taps C (w .store) (w .sums) in
     record { campaign = o .0 .campaign; store = o .1; sums = o .2 }
-after w (enter d y) =
-    let o = enterOutcome (w .campaign) (w .store) (w .sums) d y in
+after w (enter d night y) =
+    let o = enterOutcome (w .campaign) (w .store) (w .sums) d night y in
     record { campaign = o .0 .campaign; store = o .1; sums = o .2 }
 after w (withdraw d) =
     let o = withdrawOutcome (w .campaign) (w .store) (w .sums) d in
@@ -46,7 +50,7 @@ after w (summary room tags) = w
 -- the number that a call answers: 0 is accepted
 abbrev pub answer : World → Call → ℕ
 answer w (start N taps C) = startOutcome (w .campaign) N taps C (w .store) (w .sums) .0 .answer .number
-answer w (enter d y) = verdictNumber (enterOutcome (w .campaign) (w .store) (w .sums) d y .0 .entry .verdict)
+answer w (enter d night y) = verdictNumber (enterOutcome (w .campaign) (w .store) (w .sums) d night y .0 .entry .verdict)
 answer w (withdraw d) = withdrawOutcome (w .campaign) (w .store) (w .sums) d .0 .answer
 answer w counts = countsNumber (countsOutcome (w .campaign) (w .store) (w .sums))
 answer w (response r mean room tags) = responseOutcome (w .campaign) (w .store) (w .sums) r mean room tags .0
@@ -65,7 +69,7 @@ run w (c ∷ earlier) = after (run w earlier) c
 -- whether a call is a start
 abbrev pub starts : Call → Bool
 starts (start N taps C) = true
-starts (enter d y) = false
+starts (enter d night y) = false
 starts (withdraw d) = false
 starts counts = false
 starts (response r mean room tags) = false
@@ -79,7 +83,7 @@ underWay w (c ∷ earlier) = (starts c && accepted (run w earlier) c) || underWa
 -- the record as the last accepted start made it: its order, taps and slot count are those of the campaign
 abbrev pub begins : Call → Campaign → Campaign
 begins (start N taps C) before = fresh N taps C
-begins (enter d y) before = before
+begins (enter d night y) before = before
 begins (withdraw d) before = before
 begins counts before = before
 begins (response r mean room tags) before = before
@@ -94,38 +98,51 @@ begun w (c ∷ earlier) = cond (accepted (run w earlier) c) (begins c (begun w e
 -- whether a call names day d: a start names every day
 abbrev pub names : Call → ℕ → Bool
 names (start N taps C) d = true
-names (enter e y) d = eqb e d
+names (enter e night y) d = eqb e d
 names (withdraw e) d = eqb e d
 names counts d = false
 names (response r mean room tags) d = false
 names (summary room tags) d = false
 
--- what an accepted call makes of the day that it names
-abbrev pub makes : Call → ℕ
-makes (start N taps C) = unseen
-makes (enter d y) = stateOf (finding y)
-makes (withdraw d) = withdrawn
-makes counts = unseen
-makes (response r mean room tags) = unseen
-makes (summary room tags) = unseen
+-- what an accepted call makes of the day that it names, in the world before it
+abbrev pub makes : World → Call → ℕ
+makes w (start N taps C) = unseen
+makes w (enter d night y) = stateOf (finding (settledOf (w .campaign) night y))
+makes w (withdraw d) = withdrawn
+makes w counts = unseen
+makes w (response r mean room tags) = unseen
+makes w (summary room tags) = unseen
 
 -- what the last accepted call that names day d made of it, or unseen
 unfoldable pub made : World → List Call → ℕ → ℕ
 made w [] d = unseen
-made w (c ∷ earlier) d = cond (names c d && accepted (run w earlier) c) (makes c) (made w earlier d)
+made w (c ∷ earlier) d = cond (names c d && accepted (run w earlier) c) (makes (run w earlier) c) (made w earlier d)
+
+-- a night's recording: how many periods count, and its samples after the run-in
+pub record Heard : Type 0 where
+  pub periods : ℕ
+  pub samples : List ℤ
+
+-- at place j the sum of its periods, of P samples each
+abbrev pub termAt : ℕ → Heard → ℕ → ℤ
+termAt P h j = sum (h .periods) (λ i. at (h .samples) (i * P + j))
+
+abbrev pub nothing : Heard
+nothing = record { periods = 0; samples = [] }
 
 -- the recording of a call, of which a start leaves none; and the last recording accepted for day d
-abbrev pub recording : Call → List ℤ → List ℤ
-recording (start N taps C) before = []
-recording (enter d y) before = y
-recording (withdraw d) before = before
-recording counts before = before
-recording (response r mean room tags) before = before
-recording (summary room tags) before = before
+abbrev pub recording : World → Call → Heard → Heard
+recording w (start N taps C) before = nothing
+recording w (enter d night y) before = record { periods = periodsOf night; samples = settledOf (w .campaign) night y }
+recording w (withdraw d) before = before
+recording w counts before = before
+recording w (response r mean room tags) before = before
+recording w (summary room tags) before = before
 
-unfoldable pub heard : World → List Call → ℕ → List ℤ
-heard w [] d = []
-heard w (c ∷ earlier) d = cond (names c d && accepted (run w earlier) c) (recording c (heard w earlier d)) (heard w earlier d)
+unfoldable pub heard : World → List Call → ℕ → Heard
+heard w [] d = nothing
+heard w (c ∷ earlier) d =
+    cond (names c d && accepted (run w earlier) c) (recording (run w earlier) c (heard w earlier d)) (heard w earlier d)
 
 -- ---- an entry withdrawn later
 

@@ -5,13 +5,15 @@ use mathlib.Core.Bool.{Bool, true, false, cond, _&&_, _||_}
 use mathlib.Core.List.{List}
 use Prim.Native.Nat.{ℕ, zero, suc, _≤_, _<_}
 use native.Mathlib.Omega.{arith}
-use borrow.Author.Tests.{eqb-true, ltb-true, leb-true, leb-false}
+use borrow.Author.Tests.{lt-ltb, eqb-true, ltb-true, leb-true, leb-false}
 use lib.Dec.{T, eqb, ltb, leb}
 use lib.IntN.{ℤ}
 use lib.ListN.{length}
-use Rattle.log.specs.Kinds.{kindStart, kindOpen, kindSample, kindEnter, kindWithdraw, kindAsk, bodyLength}
+use Rattle.nights.specs.Nights.{nightLength}
+use Rattle.nights.specs.declared.Night.{Night}
+use Rattle.log.specs.Kinds.{kindStart, kindOpen, kindSample, kindEnter, kindWithdraw, kindAsk, kindCapture, bodyLength}
 use Rattle.log.specs.Phases.{mayStand, mayEnd}
-use Rattle.log.specs.Log.{byteAt, itemAt, decoded}
+use Rattle.log.specs.Log.{byteAt, itemAt, kindOf, decoded}
 use Rattle.log.specs.declared.Phase.{Phase}
 use Rattle.log.specs.declared.Phase.the-variants as phase
 use Rattle.log.specs.declared.Item.{Item}
@@ -21,37 +23,50 @@ use Rattle.log.specs.declared.Found.the-variants as found
 
 -- ---- the items that may stand at each place
 
--- the first is a start and no other is; samples, no more than P, and enter only in an open day; the others only outside
+-- the first is a start and no other is; samples, no more than the night's, and enter only in an open day; the others only outside
 pub data Fits (P : ℕ) : Phase → Item → Type 0 where
   starts : {N taps C : ℕ} → Fits P phase.Unbegun (item.Start N taps C)
   opens : {d : ℕ} → Fits P phase.Between (item.Open d)
+  captures : {d m : ℕ} → Fits P phase.Between (item.Capture d m)
   withdraws : {d : ℕ} → Fits P phase.Between (item.Withdraw d)
   asks : Fits P phase.Between item.Ask
-  samples : {d n : ℕ} {v : ℤ} → n < P → Fits P (phase.Open d n) (item.Sample v)
-  enters : {d n : ℕ} → Fits P (phase.Open d n) item.Enter
+  samples : {d n : ℕ} {night : Night} {v : ℤ} → n < nightLength P night → Fits P (phase.Open d night n) (item.Sample v)
+  enters : {d n : ℕ} {night : Night} → Fits P (phase.Open d night n) item.Enter
 
 module _ (P k : ℕ) (bytes : List ℕ) where
   fits-first : eqb k kindStart ≡ true → Fits P phase.Unbegun (itemAt k bytes)
   fits-first e = rw (eqb-true k kindStart e) starts
 
-  fits-outside : (a b c : Bool) → eqb k kindOpen ≡ a → eqb k kindWithdraw ≡ b → eqb k kindAsk ≡ c → a || b || c ≡ true → Fits P phase.Between (itemAt k bytes)
-  fits-outside true b c x y z h = rw (eqb-true k kindOpen x) opens
-  fits-outside false true c x y z h = rw (eqb-true k kindWithdraw y) withdraws
-  fits-outside false false true x y z h = rw (eqb-true k kindAsk z) asks
-  fits-outside false false false x y z h = absurd (subst T (sym h) tt)
+  fits-outside : (a b c d : Bool) → eqb k kindOpen ≡ a → eqb k kindWithdraw ≡ b → eqb k kindAsk ≡ c → eqb k kindCapture ≡ d → a || b || c || d ≡ true
+      → Fits P phase.Between (itemAt k bytes)
+  fits-outside true b c d x y z u h = rw (eqb-true k kindOpen x) opens
+  fits-outside false true c d x y z u h = rw (eqb-true k kindWithdraw y) withdraws
+  fits-outside false false true d x y z u h = rw (eqb-true k kindAsk z) asks
+  fits-outside false false false true x y z u h = rw (eqb-true k kindCapture u) captures
+  fits-outside false false false false x y z u h = absurd (subst T (sym h) tt)
 
-  fits-inside : (d n : ℕ) (a b c : Bool) → eqb k kindEnter ≡ a → eqb k kindSample ≡ b → ltb n P ≡ c → a || b && c ≡ true
-      → Fits P (phase.Open d n) (itemAt k bytes)
-  fits-inside d n true b c x y z h = rw (eqb-true k kindEnter x) enters
-  fits-inside d n false true true x y z h = rw (eqb-true k kindSample y) (samples (ltb-true n P z))
-  fits-inside d n false true false x y z h = absurd (subst T (sym h) tt)
-  fits-inside d n false false c x y z h = absurd (subst T (sym h) tt)
+  fits-inside : (d n : ℕ) (night : Night) (a b c : Bool) → eqb k kindEnter ≡ a → eqb k kindSample ≡ b → ltb n (nightLength P night) ≡ c
+      → a || b && c ≡ true → Fits P (phase.Open d night n) (itemAt k bytes)
+  fits-inside d n night true b c x y z h = rw (eqb-true k kindEnter x) enters
+  fits-inside d n night false true true x y z h = rw (eqb-true k kindSample y) (samples (ltb-true n (nightLength P night) z))
+  fits-inside d n night false true false x y z h = absurd (subst T (sym h) tt)
+  fits-inside d n night false false c x y z h = absurd (subst T (sym h) tt)
 
   fits : (p : Phase) → mayStand p P k ≡ true → Fits P p (itemAt k bytes)
   fits phase.Unbegun h = fits-first h
-  fits phase.Between h = fits-outside (eqb k kindOpen) (eqb k kindWithdraw) (eqb k kindAsk) refl refl refl h
-  fits (phase.Open d n) h = fits-inside d n (eqb k kindEnter) (eqb k kindSample) (ltb n P) refl refl refl h
+  fits phase.Between h = fits-outside (eqb k kindOpen) (eqb k kindWithdraw) (eqb k kindAsk) (eqb k kindCapture) refl refl refl refl h
+  fits (phase.Open d night n) h = fits-inside d n night (eqb k kindEnter) (eqb k kindSample) (ltb n (nightLength P night)) refl refl refl h
   fits phase.Stopped h = absurd (subst T (sym h) tt)
+
+-- an item's kind may stand where the item may
+pub fits-kind : {P : ℕ} {p : Phase} {i : Item} → Fits P p i → mayStand p P (kindOf i) ≡ true
+fits-kind starts = refl
+fits-kind opens = refl
+fits-kind captures = refl
+fits-kind withdraws = refl
+fits-kind asks = refl
+fits-kind {P} (samples {n = n} {night} h) = lt-ltb n (nightLength P night) h
+fits-kind enters = refl
 
 body-short : (k : ℕ) → bodyLength k ≤ 4
 body-short zero = omega arith
@@ -61,7 +76,8 @@ body-short (suc (suc (suc zero))) = omega arith
 body-short (suc (suc (suc (suc zero)))) = omega arith
 body-short (suc (suc (suc (suc (suc zero))))) = omega arith
 body-short (suc (suc (suc (suc (suc (suc zero)))))) = omega arith
-body-short (suc (suc (suc (suc (suc (suc (suc k))))))) = omega arith
+body-short (suc (suc (suc (suc (suc (suc (suc zero))))))) = omega arith
+body-short (suc (suc (suc (suc (suc (suc (suc (suc k)))))))) = omega arith
 
 -- ---- what stands at a place, of m bytes at hand
 

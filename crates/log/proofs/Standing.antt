@@ -8,7 +8,9 @@ use native.Mathlib.Omega.{arith}
 use borrow.Author.Tests.{ne-eqb, le-leb, lt-leb, le-ltb, eqb-true, leb-true, leb-false}
 use lib.Dec.{eqb, leb}
 use lib.ListN.{length, length-append, List·getD-append}
-use Rattle.log.specs.Kinds.{kindStart, kindOpen, kindSample, kindEnter, kindWithdraw, kindAsk, bodyLength}
+use Rattle.nights.specs.Nights.{nightLength}
+use Rattle.nights.specs.declared.Night.{Night}
+use Rattle.log.specs.Kinds.{kindStart, kindOpen, kindSample, kindEnter, kindWithdraw, kindAsk, kindCapture, bodyLength}
 use Rattle.log.specs.Phases.{mayStand}
 use Rattle.log.specs.Log.{byteAt, pairAt, signed, itemAt, cut, decoded}
 use Rattle.log.specs.declared.Phase.{Phase}
@@ -17,7 +19,7 @@ use Rattle.log.specs.declared.Item.the-variants as item
 use Rattle.log.specs.declared.Found.the-variants as found
 
 -- a number that is 0 or above the last kind is none of them
-none : {k : ℕ} → (k ≡ 0) ⊎ (kindAsk < k) → (n : ℕ) → 0 < n → n ≤ kindAsk → eqb k n ≡ false
+none : {k : ℕ} → (k ≡ 0) ⊎ (kindCapture < k) → (n : ℕ) → 0 < n → n ≤ kindCapture → eqb k n ≡ false
 none {k} u n h l = ne-eqb k n (λ e. ⊎-elim (λ z. omega arith) (λ z. omega arith) u)
 
 -- ---- by the tests
@@ -40,11 +42,16 @@ module _ (p : Phase) (P : ℕ) (bytes : List ℕ) (ended : Bool) (some : length 
 -- ---- each way to be bad: at the place of the kind byte
 
 -- an unknown kind
-unknown-barred : (p : Phase) (P k : ℕ) → (k ≡ 0) ⊎ (kindAsk < k) → mayStand p P k ≡ false
+unknown-barred : (p : Phase) (P k : ℕ) → (k ≡ 0) ⊎ (kindCapture < k) → mayStand p P k ≡ false
 unknown-barred phase.Unbegun P k u = none u kindStart (omega arith) (omega arith)
 unknown-barred phase.Between P k u =
-    simp (none u kindOpen (omega arith) (omega arith), none u kindWithdraw (omega arith) (omega arith), none u kindAsk (omega arith) (omega arith))
-unknown-barred (phase.Open d n) P k u = simp (none u kindEnter (omega arith) (omega arith), none u kindSample (omega arith) (omega arith))
+    simp (
+      none u kindOpen (omega arith) (omega arith),
+      none u kindWithdraw (omega arith) (omega arith),
+      none u kindAsk (omega arith) (omega arith),
+      none u kindCapture (omega arith) (omega arith),
+    )
+unknown-barred (phase.Open d night n) P k u = simp (none u kindEnter (omega arith) (omega arith), none u kindSample (omega arith) (omega arith))
 unknown-barred phase.Stopped P k u = refl
 
 -- a kind that may not stand there, whatever follows it
@@ -52,24 +59,26 @@ module _ (p : Phase) (P k : ℕ) (rest : List ℕ) (ended : Bool) where
   pub misplaced : mayStand p P k ≡ false → decoded p P (k ∷ rest) ended ≡ found.Bad
   misplaced m = sym (barred p P (k ∷ rest) ended (λ e. omega arith) m)
 
-  pub unknown-kind : (k ≡ 0) ⊎ (kindAsk < k) → decoded p P (k ∷ rest) ended ≡ found.Bad
+  pub unknown-kind : (k ≡ 0) ⊎ (kindCapture < k) → decoded p P (k ∷ rest) ended ≡ found.Bad
   unknown-kind u = misplaced (unknown-barred p P k u)
 
   -- a cut body, once the input has ended
   pub cut-body : mayStand p P k ≡ true → length rest < bodyLength k → decoded p P (k ∷ rest) true ≡ found.Bad
   cut-body m h = sym (short p P (k ∷ rest) true (λ e. omega arith) m (omega arith))
 
--- a second start; a sample beyond P
+-- a second start; a sample beyond the night's
 pub second-start : (P : ℕ) (rest : List ℕ) (ended : Bool) → decoded phase.Between P (kindStart ∷ rest) ended ≡ found.Bad
 second-start P rest ended = misplaced phase.Between P kindStart rest ended refl
 
-pub beyond-P : (d P : ℕ) (rest : List ℕ) (ended : Bool) → decoded (phase.Open d P) P (kindSample ∷ rest) ended ≡ found.Bad
-beyond-P d P rest ended = misplaced (phase.Open d P) P kindSample rest ended (le-ltb P P (omega arith))
+pub beyond-night : (d P : ℕ) (night : Night) (rest : List ℕ) (ended : Bool)
+    → decoded (phase.Open d night (nightLength P night)) P (kindSample ∷ rest) ended ≡ found.Bad
+beyond-night d P night rest ended =
+    misplaced (phase.Open d night (nightLength P night)) P kindSample rest ended (le-ltb (nightLength P night) (nightLength P night) (omega arith))
 
 -- the end of the input inside an open day, and with no input at all: the place is the input's length
-pub ends-in-a-day : (d n P : ℕ) → decoded (phase.Open d n) P [] true ≡ found.Bad
+pub ends-in-a-day : (d n P : ℕ) (night : Night) → decoded (phase.Open d night n) P [] true ≡ found.Bad
 unfolding decoded
-ends-in-a-day d n P = refl
+ends-in-a-day d n P night = refl
 
 pub no-input : (P : ℕ) → decoded phase.Unbegun P [] true ≡ found.Bad
 unfolding decoded
@@ -96,7 +105,9 @@ module _ (bytes more : List ℕ) where
       (pick (eqb k kindSample) (λ e. let l : 3 < length bytes = rw (eqb-true k kindSample e) at h in
       ap (λ n. item.Sample (signed n)) (ap₂ (λ a b. a + 65536 * b) (same-pair 1 (omega arith)) (same-byte 3 l)))
       (pick (eqb k kindEnter) (λ e. refl)
-      (pick (eqb k kindWithdraw) (λ e. let l : 2 < length bytes = rw (eqb-true k kindWithdraw e) at h in ap item.Withdraw (same-pair 1 (omega arith))) refl))))
+      (pick (eqb k kindWithdraw) (λ e. let l : 2 < length bytes = rw (eqb-true k kindWithdraw e) at h in ap item.Withdraw (same-pair 1 (omega arith)))
+      (pick (eqb k kindCapture) (λ e. let l : 3 < length bytes = rw (eqb-true k kindCapture e) at h in
+      ap₂ (λ d m. item.Capture d m) (same-pair 1 (omega arith)) (same-byte 3 l)) refl)))))
 
 module _ (p : Phase) (P : ℕ) (k : ℕ) (bytes more : List ℕ) (ended : Bool) where
   -- while more may come an item is not whole, or it is the one that is found with all that comes

@@ -1,11 +1,11 @@
--- Document 01, "The log program": the log's items, and what stands at a place of it. Assumes nothing.
+-- Document 01, "The log program", and document 02, request 1: the log's items, and what stands at a place of it. Assumes nothing.
 use mathlib.Core.List.{List}
 use mathlib.Core.Bool.{Bool, cond}
 use Prim.Native.Nat.{ℕ, _+_, _*_}
 use lib.Dec.{eqb, ltb, leb}
 use lib.IntN.{ℤ, pos, _-ℤ_}
 use lib.ListN.{length, getD}
-use Rattle.log.specs.Kinds.{kindStart, kindOpen, kindSample, kindEnter, kindWithdraw, bodyLength}
+use Rattle.log.specs.Kinds.{kindStart, kindOpen, kindSample, kindEnter, kindWithdraw, kindAsk, kindCapture, bodyLength}
 use Rattle.log.specs.Phases.{mayStand, mayEnd}
 use Rattle.log.specs.declared.Phase.{Phase}
 use Rattle.log.specs.declared.Item.{Item}
@@ -44,7 +44,18 @@ itemAt kind bytes =
     (cond (eqb kind kindSample) (item.Sample (sampleAt bytes))
     (cond (eqb kind kindEnter) item.Enter
     (cond (eqb kind kindWithdraw) (item.Withdraw (pairAt bytes 1))
-    item.Ask))))
+    (cond (eqb kind kindCapture) (item.Capture (pairAt bytes 1) (byteAt bytes 3))
+    item.Ask)))))
+
+-- the kind of an item
+abbrev pub kindOf : Item → ℕ
+kindOf (item.Start N taps C) = kindStart
+kindOf (item.Open d) = kindOpen
+kindOf (item.Sample v) = kindSample
+kindOf item.Enter = kindEnter
+kindOf (item.Withdraw d) = kindWithdraw
+kindOf item.Ask = kindAsk
+kindOf (item.Capture d m) = kindCapture
 
 -- ---- what stands at a place: the bytes from there on that are at hand, and whether the input has no more
 

@@ -2,6 +2,7 @@
 use crate::Found;
 use crate::Item;
 use crate::Phase;
+use crate::kinds::CAPTURE;
 use crate::kinds::ENTER;
 use crate::kinds::OPEN;
 use crate::kinds::SAMPLE;
@@ -60,6 +61,7 @@ fn item_at(kind: u8, bytes: &[u8]) -> Item
         SAMPLE => Item::Sample(sample_at(bytes)),
         ENTER => Item::Enter,
         WITHDRAW => Item::Withdraw(pair_at(bytes, 1)),
+        CAPTURE => Item::Capture(pair_at(bytes, 1), byte_at(bytes, 3)),
         _ => Item::Ask,
     }
 }

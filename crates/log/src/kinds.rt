@@ -14,12 +14,18 @@ pub const WITHDRAW: u8 = 5;
 
 pub const ASK: u8 = 6;
 
+// Opens a day of several periods.
+pub const CAPTURE: u8 = 7;
+
 // Order, taps and slots.
 const START_BODY: usize = 4;
 
 const DAY_BODY: usize = 2;
 
 const SAMPLE_BODY: usize = 3;
+
+// The day, and how many periods count.
+const CAPTURE_BODY: usize = 3;
 
 const NO_BODY: usize = 0;
 
@@ -32,6 +38,7 @@ pub fn body_length(kind: u8) -> usize
         OPEN => DAY_BODY,
         SAMPLE => SAMPLE_BODY,
         WITHDRAW => DAY_BODY,
+        CAPTURE => CAPTURE_BODY,
         _ => NO_BODY,
     }
 }

@@ -4,14 +4,16 @@ pub mod feeding;
 pub mod kinds;
 pub mod phases;
 
+use nights::Night;
+
 // Where the log stands between items.
 pub enum Phase {
     // No item yet.
     Unbegun,
     // Outside a day.
     Between,
-    // In an open day: the day, and how many samples it has so far.
-    Open(u32, usize),
+    // In an open day: the day, its night, and how many samples it has so far.
+    Open(u32, Night, usize),
     // After a refused start.
     Stopped,
 }
@@ -25,6 +27,8 @@ pub enum Item {
     Enter,
     Withdraw(u32),
     Ask,
+    // The day, and how many periods count.
+    Capture(u32, u32),
 }
 
 // What stands at a place of the log.

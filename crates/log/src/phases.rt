@@ -1,13 +1,19 @@
 // Where a log stands between items: which kinds may stand there, whether the input may end there, and where each item leads.
 use crate::Phase;
 use crate::kinds::ASK;
+use crate::kinds::CAPTURE;
 use crate::kinds::ENTER;
 use crate::kinds::OPEN;
 use crate::kinds::SAMPLE;
 use crate::kinds::START;
 use crate::kinds::WITHDRAW;
+use nights::Night;
+use nights::shape::lead_of;
+use nights::shape::periods_of;
 ghost use mathlib.Core.Path.{_≡_};
 ghost use Prim.Native.Nat.{_+_, _^_, _<_};
+ghost use lib.Dec.{ltb};
+ghost use Rattle.nights.specs.Nights.{nightLength};
 ghost use Rattle.log.specs.Phases.{standsOutside, standsInside, mayStand, mayEnd, goesOn, firstPhase, afterStart, afterOpen, afterSample, afterEnter};
 
 // Kinds that stand only outside a day.
@@ -20,17 +26,32 @@ fn stands_outside(kind: u8) -> bool
     if kind == WITHDRAW {
         return true;
     }
-    kind == ASK
+    if kind == ASK {
+        return true;
+    }
+    kind == CAPTURE
 }
 
-// Kinds that stand only in an open day, which has n samples so far and takes no more than P.
-fn stands_inside(kind: u8, n: usize, period: usize) -> bool
-    ensures { λ r. ⌜ r ≡ standsInside kind n period ⌝ }
+// Whether an open day that has n samples so far takes one more: by its whole periods, which no product can overflow. In the first period, which
+// every night has, it asks for no division.
+fn takes_more(night: Night, n: usize, period: usize) -> bool
+    ensures { λ r. ⌜ r ≡ ltb n (nightLength period night) ⌝ }
+{
+    if n < period {
+        return true;
+    }
+    let periods = lead_of(night) as usize + periods_of(night) as usize;
+    period != 0 && n / period < periods
+}
+
+// Kinds that stand only in an open day, which has n samples so far and takes no more than its night's.
+fn stands_inside(kind: u8, night: Night, n: usize, period: usize) -> bool
+    ensures { λ r. ⌜ r ≡ standsInside kind n (nightLength period night) ⌝ }
 {
     if kind == ENTER {
         return true;
     }
-    kind == SAMPLE && n < period
+    kind == SAMPLE && takes_more(night, n, period)
 }
 
 // The first item is a start and no other is.
@@ -40,7 +61,7 @@ pub fn may_stand(phase: Phase, period: usize, kind: u8) -> bool
     match phase {
         Phase::Unbegun => kind == START,
         Phase::Between => stands_outside(kind),
-        Phase::Open(_, n) => stands_inside(kind, n, period),
+        Phase::Open(_, night, n) => stands_inside(kind, night, n, period),
         Phase::Stopped => false,
     }
 }
@@ -52,7 +73,7 @@ pub fn may_end(phase: Phase) -> bool
     match phase {
         Phase::Unbegun => false,
         Phase::Between => true,
-        Phase::Open(_, _) => false,
+        Phase::Open(_, _, _) => false,
         Phase::Stopped => true,
     }
 }
@@ -64,7 +85,7 @@ pub fn goes_on(phase: Phase) -> bool
     match phase {
         Phase::Unbegun => true,
         Phase::Between => true,
-        Phase::Open(_, _) => true,
+        Phase::Open(_, _, _) => true,
         Phase::Stopped => false,
     }
 }
@@ -87,18 +108,18 @@ pub fn after_start(answer: u32) -> Phase
 }
 
 // A day is opened with no sample.
-pub fn after_open(day: u32) -> Phase
-    ensures { λ r. ⌜ r ≡ afterOpen day ⌝ }
+pub fn after_open(day: u32, night: Night) -> Phase
+    ensures { λ r. ⌜ r ≡ afterOpen day night ⌝ }
 {
-    Phase::Open(day, 0)
+    Phase::Open(day, night, 0)
 }
 
 // The open day has one sample more.
-pub fn after_sample(day: u32, n: usize) -> Phase
+pub fn after_sample(day: u32, night: Night, n: usize) -> Phase
     requires { ⌜ n + 1 < 2 ^ 64 ⌝ }
-    ensures { λ r. ⌜ r ≡ afterSample day n ⌝ }
+    ensures { λ r. ⌜ r ≡ afterSample day night n ⌝ }
 {
-    Phase::Open(day, n + 1)
+    Phase::Open(day, night, n + 1)
 }
 
 // The open day is closed.

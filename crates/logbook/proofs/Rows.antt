@@ -16,7 +16,7 @@ use Rattle.log.specs.declared.Phase.{Phase}
 use Rattle.log.specs.declared.Phase.the-variants as phase
 use Rattle.log.specs.declared.Item.{Item}
 use Rattle.log.specs.declared.Item.the-variants as item
-use Rattle.logbook.specs.Book.{dayLength, logStartChecks, beganOutcome, closedOutcome, Memory, applied}
+use Rattle.logbook.specs.Book.{dayLength, logStartChecks, beganOutcome, logEnterChecks, enteredOutcome, closedOutcome, Memory, applied}
 use Rattle.logbook.specs.declared.Book.{Book}
 use Rattle.logbook.specs.declared.Applied.{Applied}
 
@@ -27,20 +27,21 @@ day-in N false e = omega arith
 pub day-short : (N : ℕ) → dayLength N ≤ 511
 day-short N = day-in N (leb N 9) refl
 
-began-none : (k : ℕ) (refused : ℕ → Applied × List ℤ × List ℤ) (accepted : Applied × List ℤ × List ℤ) → ((n : ℕ) → refused n .0 .rows ≡ 0)
+none : (k : ℕ) (refused : ℕ → Applied × List ℤ × List ℤ) (accepted : Applied × List ℤ × List ℤ) → ((n : ℕ) → refused n .0 .rows ≡ 0)
     → accepted .0 .rows ≡ 0
     → answered k refused accepted .0 .rows ≡ 0
-began-none zero refused accepted f e = e
-began-none (suc k) refused accepted f e = f (suc k)
+none zero refused accepted f e = e
+none (suc k) refused accepted f e = f (suc k)
 
 pub start-few : (c : Campaign) (N taps C : ℕ) (store sums : List ℤ) → beganOutcome c N taps C store sums .0 .rows ≡ 0
 unfolding beganOutcome
-start-few c N taps C store sums = began-none (first (logStartChecks N taps C)) _ _ (λ n. refl) refl
+start-few c N taps C store sums = none (first (logStartChecks N taps C)) _ _ (λ n. refl) refl
 
 close-few : (p : Phase) (c : Campaign) (store sums y : List ℤ) → closedOutcome p c store sums y .0 .rows ≡ 0
+unfolding enteredOutcome
 close-few phase.Unbegun c store sums y = refl
 close-few phase.Between c store sums y = refl
-close-few (phase.Open d n) c store sums y = refl
+close-few (phase.Open d night n) c store sums y = none (first (logEnterChecks d night)) _ _ (λ k. refl) refl
 close-few phase.Stopped c store sums y = refl
 
 rows-in : (k n : ℕ) → n ≤ 511 → answered k (λ _. 0) n ≤ 511
@@ -54,6 +55,7 @@ rows-few b (item.Open d) m = omega arith
 rows-few b (item.Sample v) m = omega arith
 rows-few b item.Enter m = omega (arith, close-few (b .phase) (b .campaign) (m .store) (m .sums) (m .recording))
 rows-few b (item.Withdraw d) m = omega arith
+rows-few b (item.Capture d k) m = omega arith
 rows-few b item.Ask m =
     rows-in (responseOutcome (b .campaign) (m .store) (m .sums) (m .r) (m .mean) (m .room) (m .tags) .0) (dayLength (b .campaign .order))
     (day-short (b .campaign .order))

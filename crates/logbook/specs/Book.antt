@@ -1,18 +1,22 @@
--- Document 01, "The log program": what each item does to the state between items and to the memory lent, and the line that it makes,
--- by the campaign's calls. Assumes nothing.
+-- Document 01, "The log program", and document 02, request 1: what each item does to the state between items and to the memory lent, and the line
+-- that it makes, by the campaign's calls. Assumes nothing.
 use mathlib.Core.List.{List, [], _∷_, _++_}
-use mathlib.Core.Bool.{Bool, cond, _||_}
+use mathlib.Core.Bool.{Bool, cond, _&&_, _||_}
 use Prim.Native.Nat.{ℕ}
 use lib.Dec.{ltb, leb}
 use lib.IntN.{ℤ}
-use lib.ListN.{length, take, set}
+use lib.ListN.{take, set}
 use Rattle.sums.specs.Refusals.{answered, outcome}
 use Rattle.register.specs.Register.{P}
 use Rattle.register.specs.Calls.{tapsChecks, answerOf}
+use Rattle.nights.specs.Nights.{periodsOf, periodsOut}
+use Rattle.nights.specs.declared.Night.{Night}
+use Rattle.nights.specs.declared.Night.the-variants as night
 use Rattle.records.specs.Record.{fresh}
 use Rattle.records.specs.declared.Campaign.{Campaign}
-use Rattle.campaign.specs.Calls.{slotsOut, startOutcome, enterOutcome, withdrawOutcome}
+use Rattle.campaign.specs.Calls.{slotsOut, dayOut, startOutcome, entered, enterOutcome, withdrawOutcome}
 use Rattle.campaign.specs.declared.Started.{Started}
+use Rattle.campaign.specs.declared.Verdict.the-variants as verdict
 use Rattle.campaign.specs.declared.Entered.{Entered}
 use Rattle.campaign.specs.declared.Withdrawn.{Withdrawn}
 use Rattle.trend.specs.Calls.{countsOutcome, responseOutcome}
@@ -42,7 +46,7 @@ unbegunBook = record { phase = firstPhase; campaign = fresh 0 0 0 }
 
 -- ---- start: 1, 2, 3, 4, 9, and 17 in the place of 6
 
--- 17: the program only: order above 9 or slots above 8
+-- 17: the program only: order above 9 or slots above 8; and at an entry m from 5 to 16
 abbrev pub tooLarge : ℕ → ℕ → Bool
 tooLarge N C = ltb 9 N || ltb 8 C
 
@@ -64,27 +68,37 @@ beganOutcome c N taps C store sums =
 abbrev pub dayLength : ℕ → ℕ
 dayLength N = cond (leb N 9) (P N) 0
 
--- a sample of an open day goes to the next place of the recording
-abbrev pub putSample : ℕ → ℕ → ℤ → List ℤ → Phase × List ℤ
-putSample d n v y = cond (ltb n (length y)) (afterSample d n, set y n v) (phase.Open d n, y)
+-- where m is 0 or above 4 the program counts the samples and keeps none
+abbrev pub unheld : ℕ → Bool
+unheld m = ltb m 1 || ltb 4 m
+
+-- a sample of a night of m periods goes to the next place of the recording
+abbrev pub keptSample : ℕ → ℕ → ℤ → List ℤ → List ℤ
+keptSample m n v y = cond (unheld m) y (set y n v)
 
 abbrev pub tookSample : Phase → ℤ → List ℤ → Phase × List ℤ
 tookSample phase.Unbegun v y = (phase.Unbegun, y)
 tookSample phase.Between v y = (phase.Between, y)
-tookSample (phase.Open d n) v y = putSample d n v y
+tookSample (phase.Open d night n) v y = (afterSample d night n, keptSample (periodsOf night) n v y)
 tookSample phase.Stopped v y = (phase.Stopped, y)
+
+-- those that come before the campaign's own, where it keeps none: 10, 18, 17
+abbrev pub logEnterChecks : ℕ → Night → List (ℕ × Bool)
+logEnterChecks d night = (10, unheld (periodsOf night) && dayOut d) ∷ (18, periodsOut night) ∷ (17, ltb 4 (periodsOf night)) ∷ []
 
 -- enter closes it
 abbrev pub enteredBy : Entered → Applied
 enteredBy e = said afterEnter (e .campaign) (line.Entered (e .entry))
 
-abbrev pub enteredOutcome : Campaign → ℕ → ℕ → List ℤ → List ℤ → List ℤ → Applied × List ℤ × List ℤ
-enteredOutcome c d n store sums y = over enteredBy (enterOutcome c store sums d (take n y))
+unfoldable pub enteredOutcome : Campaign → ℕ → Night → ℕ → List ℤ → List ℤ → List ℤ → Applied × List ℤ × List ℤ
+enteredOutcome c d night n store sums y =
+    outcome (logEnterChecks d night) (λ k. (enteredBy (entered c d (verdict.Refused k)), store, sums))
+    (over enteredBy (enterOutcome c store sums d night (take n y)))
 
 abbrev pub closedOutcome : Phase → Campaign → List ℤ → List ℤ → List ℤ → Applied × List ℤ × List ℤ
 closedOutcome phase.Unbegun c store sums y = (said phase.Unbegun c line.Silent, store, sums)
 closedOutcome phase.Between c store sums y = (said phase.Between c line.Silent, store, sums)
-closedOutcome (phase.Open d n) c store sums y = enteredOutcome c d n store sums y
+closedOutcome (phase.Open d night n) c store sums y = enteredOutcome c d night n store sums y
 closedOutcome phase.Stopped c store sums y = (said phase.Stopped c line.Silent, store, sums)
 
 -- ---- a day is withdrawn
@@ -144,8 +158,9 @@ asking m o = (o .0, memory (m .store) (m .sums) (m .recording) (o .1) (o .2) (o 
 
 unfoldable pub applied : Book → Item → Memory → Applied × Memory
 applied b (item.Start N taps C) m = filing m (beganOutcome (b .campaign) N taps C (m .store) (m .sums))
-applied b (item.Open d) m = (said (afterOpen d) (b .campaign) line.Silent, m)
+applied b (item.Open d) m = (said (afterOpen d night.Period) (b .campaign) line.Silent, m)
 applied b (item.Sample v) m = sampling m (b .campaign) (tookSample (b .phase) v (m .recording))
 applied b item.Enter m = filing m (closedOutcome (b .phase) (b .campaign) (m .store) (m .sums) (m .recording))
 applied b (item.Withdraw d) m = filing m (withdrewOutcome (b .phase) (b .campaign) d (m .store) (m .sums))
 applied b item.Ask m = asking m (askedOutcome b (m .store) (m .sums) (m .r) (m .mean) (m .room) (m .tags))
+applied b (item.Capture d k) m = (said (afterOpen d (night.Capture k)) (b .campaign) line.Silent, m)

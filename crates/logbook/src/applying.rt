@@ -2,9 +2,12 @@
 use crate::Applied;
 use crate::Book;
 use crate::LOG_ORDER;
+use crate::LOG_PERIODS;
 use crate::LOG_SLOTS;
 use campaign::Entered;
+use campaign::Entry;
 use campaign::Started;
+use campaign::Verdict;
 use campaign::Withdrawn;
 use campaign::entering::enter;
 use campaign::starting::start;
@@ -16,7 +19,11 @@ use log::phases::after_open;
 use log::phases::after_sample;
 use log::phases::after_start;
 use log::phases::first_phase;
+use nights::MOST_PERIODS;
+use nights::Night;
+use nights::shape::periods_of;
 use records::Campaign;
+use records::LAST_DAY;
 use records::MOST_SLOTS;
 use records::filing::blank;
 use records::tables::outside;
@@ -29,9 +36,13 @@ use trend::Tally;
 use trend::answering::response;
 use trend::counting::counts;
 ghost use mathlib.Core.Path.{_≡_};
+ghost use mathlib.Core.Bool.{true};
 ghost use Rattle.sums.specs.Refusals.{first};
-ghost use Rattle.logbook.specs.Book.{unbegunBook, tooLarge, logStartChecks, dayLength, said, startedBy, beganOutcome, tookSample};
-ghost use Rattle.logbook.specs.Book.{enteredBy, enteredOutcome, closedOutcome, withdrawnBy, withdrewOutcome, tallied, askedOutcome, memory, applied};
+ghost use Rattle.log.specs.Kinds.{kindSample};
+ghost use Rattle.log.specs.Phases.{mayStand};
+ghost use Rattle.log.specs.Log.{kindOf};
+ghost use Rattle.logbook.specs.Book.{unbegunBook, tooLarge, logStartChecks, dayLength, said, startedBy, beganOutcome, unheld, keptSample, tookSample};
+ghost use Rattle.logbook.specs.Book.{logEnterChecks, enteredBy, enteredOutcome, closedOutcome, withdrawnBy, withdrewOutcome, tallied, askedOutcome, memory, applied};
 
 // The state before the first item.
 pub fn unbegun() -> Book
@@ -117,17 +128,53 @@ fn begin(
     started_by(start(c, order, taps, capacity, store, sums))
 }
 
-// The sample goes to the next place of the open day's recording.
-fn take_sample(phase: Phase, v: i32, recording: &mut [i32]) -> Phase
-    ensures { λ x. ⌜ (x, now (recording .exit)) ≡ tookSample phase v (now (recording .entry)) ⌝ }
+// Whether the samples of a night of m periods are counted and not kept.
+fn not_held(m: u32) -> bool
+    ensures { λ r. ⌜ r ≡ unheld m ⌝ }
 {
-    if let Phase::Open(day, n) = phase {
-        if n < recording.len() {
-            recording[n] = v;
-            return after_sample(day, n);
-        }
+    outside(m, LOG_PERIODS)
+}
+
+// The sample goes to place n of the recording, where a night of m periods is kept.
+fn keep_sample(m: u32, n: usize, v: i32, recording: &mut [i32])
+    ensures { λ _. ⌜ now (recording .exit) ≡ keptSample m n v (now (recording .entry)) ⌝ }
+{
+    if not_held(m) {
+        return;
+    }
+    if n < recording.len() {
+        recording[n] = v;
+    }
+}
+
+// A sample that may stand there is the next of the open day.
+fn take_sample(book: Book, v: i32, recording: &mut [i32]) -> Phase
+    requires { ⌜ mayStand (book .phase) (dayLength (book .campaign .order)) kindSample ≡ true ⌝ }
+    ensures { λ x. ⌜ (x, now (recording .exit)) ≡ tookSample (book .phase) v (now (recording .entry)) ⌝ }
+{
+    let phase = book.phase;
+    if let Phase::Open(day, night, n) = phase {
+        keep_sample(periods_of(night), n, v, recording);
+        return after_sample(day, night, n);
     }
     phase
+}
+
+// The first of 10, 18, 17 that refuses a night whose samples are not kept, and 0 where they are.
+fn night_refusal(day: u32, night: Night) -> u32
+    ensures { λ n. ⌜ n ≡ first (logEnterChecks day night) ⌝ }
+{
+    let m = periods_of(night);
+    if !not_held(m) {
+        return 0;
+    }
+    if outside(day, LAST_DAY) {
+        return 10;
+    }
+    if outside(m, MOST_PERIODS) {
+        return 18;
+    }
+    17
 }
 
 fn entered_by(e: Entered) -> Applied
@@ -138,21 +185,32 @@ fn entered_by(e: Entered) -> Applied
     say(after_enter(), campaign, Line::Entered(entry))
 }
 
-// The open day's recording is entered, and the day is closed.
+// The open day's recording is entered, refusing 10, 18, 17 where its samples are not kept, and the day is closed.
 fn enter_day(
     c: Campaign,
     day: u32,
+    night: Night,
     n: usize,
     store: &mut [i32],
     sums: &mut [i64],
     recording: &[i32],
 ) -> Applied
-    ensures { λ x. ⌜ (x, now (store .exit), now (sums .exit)) ≡ enteredOutcome c day n (now (store .entry)) (now (sums .entry)) (now (recording .entry)) ⌝ }
+    ensures { λ x. ⌜ (x, now (store .exit), now (sums .exit)) ≡ enteredOutcome c day night n (now (store .entry)) (now (sums .entry)) (now (recording .entry)) ⌝ }
 {
-    if n < recording.len() {
-        return entered_by(enter(c, store, sums, day, &recording[..n]));
+    let refusal = night_refusal(day, night);
+    if refusal != 0 {
+        return entered_by(Entered {
+            entry: Entry {
+                day,
+                verdict: Verdict::Refused(refusal),
+            },
+            campaign: c,
+        });
     }
-    entered_by(enter(c, store, sums, day, recording))
+    if n < recording.len() {
+        return entered_by(enter(c, store, sums, day, night, &recording[..n]));
+    }
+    entered_by(enter(c, store, sums, day, night, recording))
 }
 
 fn close(
@@ -164,8 +222,8 @@ fn close(
 ) -> Applied
     ensures { λ x. ⌜ (x, now (store .exit), now (sums .exit)) ≡ closedOutcome phase c (now (store .entry)) (now (sums .entry)) (now (recording .entry)) ⌝ }
 {
-    if let Phase::Open(day, n) = phase {
-        return enter_day(c, day, n, store, sums, recording);
+    if let Phase::Open(day, night, n) = phase {
+        return enter_day(c, day, night, n, store, sums, recording);
     }
     say(phase, c, Line::Silent)
 }
@@ -230,7 +288,7 @@ fn ask(
     }
 }
 
-// An item's work, with the line that it makes.
+// The work of an item that may stand there, with the line that it makes.
 pub fn apply(
     book: Book,
     item: Item,
@@ -242,6 +300,7 @@ pub fn apply(
     room: &mut [i64],
     tags: &mut [u16],
 ) -> Applied
+    requires { ⌜ mayStand (book .phase) (dayLength (book .campaign .order)) (kindOf item) ≡ true ⌝ }
     ensures { λ x. ⌜ (x, memory (now (store .exit)) (now (sums .exit)) (now (recording .exit)) (now (r .exit)) (now (mean .exit)) (now (room .exit)) (now (tags .exit)))
         ≡ applied book item (memory (now (store .entry)) (now (sums .entry)) (now (recording .entry)) (now (r .entry)) (now (mean .entry)) (now (room .entry)) (now (tags .entry))) ⌝ }
 {
@@ -249,10 +308,11 @@ pub fn apply(
     let c = book.campaign;
     match item {
         Item::Start(order, taps, capacity) => begin(c, order, taps, capacity, store, sums),
-        Item::Open(day) => say(after_open(day), c, Line::Silent),
-        Item::Sample(v) => say(take_sample(phase, v, recording), c, Line::Silent),
+        Item::Open(day) => say(after_open(day, Night::Period), c, Line::Silent),
+        Item::Sample(v) => say(take_sample(book, v, recording), c, Line::Silent),
         Item::Enter => close(phase, c, store, sums, recording),
         Item::Withdraw(day) => withdraw_day(phase, c, day, store, sums),
         Item::Ask => ask(book, store, sums, r, mean, room, tags),
+        Item::Capture(day, m) => say(after_open(day, Night::Capture(m)), c, Line::Silent),
     }
 }

@@ -10,6 +10,9 @@ pub const LOG_ORDER: u32 = 9;
 
 pub const LOG_SLOTS: u32 = 8;
 
+// The most periods, after the run-in, of a night whose samples the program keeps.
+pub const LOG_PERIODS: u32 = 4;
+
 // The state between items, beside the memory lent.
 pub struct Book {
     pub phase: Phase,

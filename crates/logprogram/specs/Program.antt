@@ -1,4 +1,4 @@
--- Document 01, "The log program", as one function: from all bytes of the input to all bytes that are printed. What stands at a place of the
+-- Document 01, "The log program", and document 02, request 1, as one function: from all bytes of the input to all bytes that are printed. What stands at a place of the
 -- log is crate `log`'s `decoded`, what an item does is `logbook`'s `applied`, and a line's bytes are `report`'s: here is only how they
 -- follow each other. Assumes nothing.
 use mathlib.Core.List.{List, [], _++_}
@@ -27,12 +27,12 @@ pub record Place : Type 0 where
   pub offset : ℕ
   pub going : Bool
 
--- at the beginning: no item yet, and zeros for the largest order and the most slots that the program takes
+-- at the beginning: no item yet, and zeros for the largest order, the most slots and the longest night, of five periods, that the program takes
 abbrev pub zeros : ℕ → List ℤ
 zeros n = replicate n (pos 0)
 
 abbrev pub firstMemory : Memory
-firstMemory = memory (zeros 4088) (zeros 511) (zeros 511) (zeros 511) (zeros 511) (zeros 512) (replicate 511 0)
+firstMemory = memory (zeros 4088) (zeros 511) (zeros 2555) (zeros 511) (zeros 511) (zeros 512) (replicate 511 0)
 
 abbrev pub firstPlace : Place
 firstPlace = record { book = unbegunBook; memory = firstMemory; offset = 0; going = true }

@@ -11,10 +11,13 @@ use logbook::applying::apply;
 use logbook::applying::day_length;
 use logbook::applying::unbegun;
 ghost use mathlib.Core.Path.{_≡_};
+ghost use mathlib.Core.Bool.{true};
 ghost use Prim.Native.Nat.{_^_, _≤_, _<_};
 ghost use lib.ListN.{length};
+ghost use Rattle.log.specs.Phases.{mayStand};
+ghost use Rattle.log.specs.Log.{kindOf};
 ghost use Rattle.log.specs.declared.Found.the-variants.{Bad};
-ghost use Rattle.logbook.specs.Book.{Memory, memory, applied};
+ghost use Rattle.logbook.specs.Book.{Memory, memory, dayLength, applied};
 ghost use Rattle.logprogram.specs.Program.{firstMemory, firstPlace, took, turnOn, turn, placeOf, stoppedMark, turnOf};
 
 // Before the first item.
@@ -40,7 +43,7 @@ pub fn stop(mark: Bookmark) -> Bookmark
     }
 }
 
-// A whole item is applied, and its lines are written.
+// A whole item that may stand there is applied, and its lines are written.
 fn take_item(
     mark: Bookmark,
     item: Item,
@@ -54,6 +57,7 @@ fn take_item(
     tags: &mut [u16],
     out: &mut [u8],
 ) -> Turned
+    requires { ⌜ mayStand (mark .book .phase) (dayLength (mark .book .campaign .order)) (kindOf item) ≡ true ⌝ }
     requires { ⌜ (size ≤ 5) × (mark .offset < 2 ^ 63) × (511 ≤ length (now r)) × (511 ≤ length (now mean)) × (65536 ≤ length (now out)) ⌝ }
     ensures { λ x. ⌜ turnOf x (memory (now (store .exit)) (now (sums .exit)) (now (recording .exit)) (now (r .exit)) (now (mean .exit)) (now (room .exit)) (now (tags .exit))) (now (out .exit))
         ≡ took (mark .offset) size (applied (mark .book) item (memory (now (store .entry)) (now (sums .entry)) (now (recording .entry)) (now (r .entry)) (now (mean .entry)) (now (room .entry)) (now (tags .entry)))) ⌝ }

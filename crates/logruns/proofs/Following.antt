@@ -8,7 +8,7 @@ use native.Mathlib.Omega.{arith}
 use borrow.Author.Tests.{ltb-false}
 use lib.Dec.{ltb}
 use lib.IntN.{ℤ, pos}
-use lib.ListN.{length, set, take, length-replicate}
+use lib.ListN.{length, take, length-replicate}
 use lib.Pow.{pow-mono}
 use Rattle.sums.specs.Lists.{table, put}
 use Rattle.sums.specs.Refusals.{first, answered}
@@ -17,9 +17,12 @@ use Rattle.sums.proofs.Tables.{length-put, length-table}
 use Rattle.register.specs.Register.{P}
 use Rattle.register.specs.Calls.{answerOf}
 use Rattle.register.specs.declared.Answer.{Answer}
+use Rattle.nights.specs.Nights.{periodsOf}
+use Rattle.nights.specs.declared.Night.{Night}
 use Rattle.records.specs.Record.{fresh}
 use Rattle.records.specs.declared.Campaign.{Campaign}
-use Rattle.campaign.specs.Calls.{startOutcome}
+use Rattle.campaign.specs.Calls.{startOutcome, entered, enterOutcome}
+use Rattle.campaign.specs.declared.Verdict.the-variants as verdict
 use Rattle.trend.specs.Calls.{responseChecks, responseOutcome, worked, meanAt}
 use Rattle.history.specs.Run.{World, Call, start, enter, withdraw, counts, response, after, run, underWay, begun}
 use Rattle.history.specs.Run as run-of
@@ -29,13 +32,13 @@ use Rattle.history.proofs.Answers.{RoomFor, responded}
 use Rattle.log.specs.declared.Phase.{Phase}
 use Rattle.log.specs.declared.Phase.the-variants as phase
 use Rattle.log.specs.declared.Item.{Item}
-use Rattle.log.specs.declared.Item.the-variants as item
 use Rattle.log.specs.declared.Found.{Found}
 use Rattle.log.specs.declared.Found.the-variants as found
-use Rattle.log.proofs.Finding.{Fits, starts, opens, withdraws, asks, samples, enters, whole, bad, end}
-use Rattle.logbook.specs.Book.{Memory, memory, dayLength, logStartChecks, over, startedBy, beganOutcome, filing, applied}
+use Rattle.log.proofs.Finding.{Fits, starts, opens, captures, withdraws, asks, samples, enters, whole, bad, end}
+use Rattle.logbook.specs.Book.{Memory, dayLength, logStartChecks, over, startedBy, beganOutcome, unheld, logEnterChecks, enteredBy, enteredOutcome, filing, applied}
 use Rattle.logbook.specs.declared.Applied.{Applied}
 use Rattle.logbook.proofs.Starts as starting
+use Rattle.logbook.proofs.Held.{passed-held}
 use Rattle.logprogram.specs.Program.{Place, zeros, firstMemory, turnOn, standsAt}
 use Rattle.logprogram.proofs.Turns.{StandsAt, found-at, turns}
 use Rattle.logruns.specs.Calls.{firstWorld, callsOf, callsAt, Reached, onward, reached}
@@ -55,7 +58,7 @@ pub record Running (calls : List Call) (c : Campaign) (m : Memory) : Type 0 wher
 pub data Follows (calls : List Call) (c : Campaign) (m : Memory) : Phase → Type 0 where
   unbegun : c ≡ fresh 0 0 0 → m ≡ firstMemory → calls ≡ [] → Follows calls c m phase.Unbegun
   between : Running calls c m → Follows calls c m phase.Between
-  inside : {d n : ℕ} → Running calls c m → Follows calls c m (phase.Open d n)
+  inside : {d n : ℕ} {night : Night} → Running calls c m → Follows calls c m (phase.Open d night n)
   stopped : Follows calls c m phase.Stopped
 
 abbrev pub FollowsAt : List Call → Place → Type 0
@@ -149,11 +152,21 @@ module _ (c : Campaign) (m : Memory) (calls : List Call) where
   unfolding beganOutcome
   start-follows N taps C e f g = rw (e, f, g) (began-follows N taps C (first (logStartChecks N taps C)) refl)
 
-  sample-follows : (d n : ℕ) (v : ℤ) (b : Bool) → Running calls c m
-      → let o = cond {A = Phase × List ℤ} b (phase.Open d (n + 1), set (m .recording) n v) (phase.Open d n, m .recording) in
-      Follows calls c (memory (m .store) (m .sums) (o .1) (m .r) (m .mean) (m .room) (m .tags)) (o .0)
-  sample-follows d n v true r = inside (record { going = r .going; few = r .few; world = r .world; room = r .room })
-  sample-follows d n v false r = inside (record { going = r .going; few = r .few; world = r .world; room = r .room })
+  -- a day whose samples are not kept is refused and nothing is called; another is entered with those that came
+  entry-follows : (d n : ℕ) (night : Night) (y : List ℤ) → (unheld (periodsOf night) ≡ false → take n (m .recording) ≡ y) → Running calls c m
+      → let o = filing m (enteredOutcome c d night n (m .store) (m .sums) (m .recording)) in
+      Follows (answered (first (logEnterChecks d night)) (λ _. []) (enter d night y ∷ []) ++ calls) (o .0 .book .campaign) (o .1) (o .0 .book .phase)
+  unfolding enteredOutcome run
+  entry-follows d n night y came r = go (first (logEnterChecks d night)) refl
+    where
+      go : (k : ℕ) → first (logEnterChecks d night) ≡ k
+          → let o = filing m (answered k (λ k. (enteredBy (entered c d (verdict.Refused k)), m .store, m .sums))
+          (over enteredBy (enterOutcome c (m .store) (m .sums) d night (take n (m .recording))))) in
+          Follows (answered k (λ _. []) (enter d night y ∷ []) ++ calls) (o .0 .book .campaign) (o .1) (o .0 .book .phase)
+      go (suc k) e = between r
+      go zero e =
+          rw (← (came (passed-held d night e)))
+          (between (onward-running r (enter d night (take n (m .recording))) refl (ap (λ w. after w (enter d night (take n (m .recording)))) (r .world)) (r .room)))
 
 module _ (D : ℕ) (c : Campaign) (m : Memory) (offset : ℕ) (going : Bool) (calls : List Call) where
   abbrev standing-at : Phase → Place
@@ -164,14 +177,14 @@ module _ (D : ℕ) (c : Campaign) (m : Memory) (offset : ℕ) (going : Bool) (ca
   unfolding applied run
   item-follows y p i k (starts {N} {taps} {C}) _ (unbegun e f g) = start-follows c m calls N taps C e f g
   item-follows y p i k opens _ (between r) = inside r
+  item-follows y p i k captures _ (between r) = inside r
   item-follows y p i k (withdraws {d}) _ (between r) = between (onward-running r (withdraw d) refl (ap (λ w. after w (withdraw d)) (r .world)) (r .room))
   item-follows y p i k asks _ (between r) =
       let ask = response (m .r) (m .mean) (m .room) (m .tags) in
       let asked : Running (ask ∷ calls) c m = onward-running r ask refl (r .world) (r .room) in
       between (onward-running asked counts refl (r .world) (asked-room c (m .store) (m .sums) (m .r) (m .mean) (m .room) (m .tags) (order-few r) (r .room)))
-  item-follows y p i k (samples {d} {n} {v} h) _ (inside r) = sample-follows c m calls d n v (ltb n (length (m .recording))) r
-  item-follows y p i k (enters {d} {n}) (recording.inside e) (inside r) =
-      rw (← e) (between (onward-running r (enter d (take n (m .recording))) refl (ap (λ w. after w (enter d (take n (m .recording)))) (r .world)) (r .room)))
+  item-follows y p i k (samples h) _ (inside r) = inside (record { going = r .going; few = r .few; world = r .world; room = r .room })
+  item-follows y p i k (enters {d} {n} {night}) (recording.inside came) (inside r) = entry-follows c m calls d n night y came r
 
 -- ---- all items
 

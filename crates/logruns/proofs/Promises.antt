@@ -1,15 +1,16 @@
--- What every log is promised: no line of it says 15 or 6, a start prints its answer and after 4 how short the period is, and what a response prints is
--- what the history of its calls says, the third demand. For every input, and after any number of turns. Assumes nothing.
+-- What every log is promised: no line of it says 15 or 6, a start prints its answer and after 4 how short the period is, an entry prints its answer or,
+-- where the samples are not kept, the first of 10, 18, 17, and what a response prints is what the history of its calls says, the third demand. For every
+-- input, and after any number of turns. Assumes nothing.
 use mathlib.Core.Path.{_≡_, refl, sym, ap, subst, _∙_}
-use mathlib.Core.Bool.{true, cond}
-use mathlib.Core.List.{List, _++_, append-nil}
-use Prim.Native.Nat.{ℕ, suc, _≤_, _<_}
+use mathlib.Core.Bool.{true, false, cond}
+use mathlib.Core.List.{List, [], _∷_, _++_, append-nil}
+use Prim.Native.Nat.{ℕ, suc, _+_, _*_, _≤_, _<_}
 use native.Mathlib.Omega.{arith}
 use borrow.Author.Tests.{le-leb}
 use lib.IntN.{ℤ, pos, _*ℤ_}
 use lib.ListN.{length, take, length-replicate}
 use lib.Pow.{pow-mono}
-use Rattle.sums.proofs.First.{not-first, outcome-cases}
+use Rattle.sums.proofs.First.{not-first, outcome-cases, answered-refused}
 use Rattle.sums.specs.Lists.{at}
 use Rattle.sums.specs.Text.{ascii}
 use Rattle.sums.specs.Refusals.{first, answered}
@@ -18,12 +19,15 @@ use Rattle.register.specs.Calls.{told, answerOf}
 use Rattle.register.proofs.HowShort.{how-short}
 use Rattle.register.proofs.Judged.{FirstReturn}
 use Rattle.response.specs.Response.{prediction}
+use Rattle.nights.specs.Nights.{periodsOf}
+use Rattle.nights.specs.declared.Night.{Night}
 use Rattle.records.specs.Record.{unseen, standing, overloaded, dead, withdrawn, together}
 use Rattle.records.specs.declared.Campaign.{Campaign}
 use Rattle.records.proofs.Refiling.{Day}
-use Rattle.campaign.specs.Calls.{enterAll, withdrawChecks, withdrawnOutcome}
+use Rattle.campaign.specs.Calls.{enterAll, entered, enterOutcome, withdrawChecks, withdrawnOutcome, withdrawOutcome}
 use Rattle.campaign.proofs.EntryCases.{entry-first}
-use Rattle.campaign.specs.Calls.{withdrawOutcome}
+use Rattle.campaign.specs.declared.Entered.{Entered}
+use Rattle.campaign.specs.declared.Verdict.the-variants as verdict
 use Rattle.campaign.specs.declared.Withdrawn.{Withdrawn}
 use Rattle.trend.specs.Calls.{countsOutcome, responseOutcome}
 use Rattle.trend.proofs.Enough.{response-enough}
@@ -32,19 +36,23 @@ use Rattle.history.specs.Run.{World, Call, enter, withdraw, response, answer, b
 use Rattle.history.proofs.Answers.{RoomFor}
 use Rattle.history.proofs.EveryRun as every
 use Rattle.log.specs.declared.Phase.{Phase}
+use Rattle.log.specs.declared.Phase.the-variants as phase
 use Rattle.log.specs.declared.Item.{Item}
 use Rattle.log.specs.declared.Item.the-variants as item
 use Rattle.log.specs.declared.Found.the-variants as found
-use Rattle.log.proofs.Finding.{Fits, starts, opens, withdraws, asks, samples, enters, whole-fits}
+use Rattle.log.proofs.Finding.{Fits, starts, opens, captures, withdraws, asks, samples, enters, whole-fits}
 use Rattle.report.specs.Lines.{digits, spaced, lineEnd, startLine, lineBytes, responseLine}
 use Rattle.report.specs.declared.Line.the-variants as line
-use Rattle.logbook.specs.Book.{Memory, logStartChecks, dayLength, tallied, applied}
+use Rattle.logbook.specs.Book.{Memory, logStartChecks, dayLength, unheld, logEnterChecks, enteredBy, enteredOutcome, closedOutcome, tallied, filing, applied}
 use Rattle.logbook.specs.declared.Applied.{Applied}
 use Rattle.logbook.proofs.Rows.{start-few}
 use Rattle.logbook.proofs.Starts.{never-six}
-use Rattle.logprogram.specs.Program.{Place, firstMemory, rowsBytes, printed, turnOn, standsAt, turn}
+use Rattle.logbook.proofs.Held.{held-passes, unheld-refused, unkeptAnswer, unkept-refused, refusing, unkept-entry, kept-entry}
+use Rattle.logprogram.specs.Program.{Place, firstMemory, rowsBytes, printed, took, turnOn, standsAt, turn}
 use Rattle.logprogram.proofs.Turns.{found-at, turns}
-use Rattle.logruns.specs.Calls.{worldOf, firstWorld, lineNumber, reached}
+use Rattle.logruns.specs.Calls.{worldOf, firstWorld, entry, callsAt, lineNumber, onward, reached}
+use Rattle.logruns.proofs.Recording.{Sampled, samples-held}
+use Rattle.logruns.proofs.Recording as recording
 use Rattle.logruns.proofs.Following.{Running, Follows, unbegun, between, inside, order-is, order-few, follows}
 
 -- ---- the run that a place stands in
@@ -71,8 +79,8 @@ module _ {calls : List Call} {c : Campaign} {m : Memory} (r : Running calls c m)
 
   -- ---- 6 is no answer of an entry or of a withdrawal, and a response has room
 
-  entry-no-six : (d : ℕ) (y : List ℤ) → answer now (enter d y) ≡ 6 → ⊥
-  entry-no-six d y h = not-first 6 (enterAll c (m .store) (m .sums) d y) tt (sym (entry-first c (m .store) (m .sums) d y) ∙ h)
+  entry-no-six : (d : ℕ) (night : Night) (y : List ℤ) → answer now (enter d night y) ≡ 6 → ⊥
+  entry-no-six d night y h = not-first 6 (enterAll c (m .store) (m .sums) d night y) tt (sym (entry-first c (m .store) (m .sums) d night y) ∙ h)
 
   withdrawal-no-six : (d : ℕ) → answer now (withdraw d) ≡ 6 → ⊥
   unfolding withdrawOutcome
@@ -100,6 +108,14 @@ module _ (D : ℕ) (c : Campaign) (m : Memory) (calls : List Call) where
       never-six c N taps C (m .store) (m .sums) (omega (arith, ap (λ (x : Memory). length (x .store)) f, length-replicate {A = ℤ} 4088 (pos 0)))
       (omega (arith, ap (λ (x : Memory). length (x .sums)) f, length-replicate {A = ℤ} 511 (pos 0)))
 
+  entry-number : (d n : ℕ) (night : Night) → Running calls c m
+      → let k = lineNumber (enteredOutcome c d night n (m .store) (m .sums) (m .recording) .0 .line) in (k ≡ 15 → ⊥) × (k ≡ 6 → ⊥)
+  unfolding enteredOutcome
+  entry-number d n night r =
+      outcome-cases {A = Applied × List ℤ × List ℤ} (logEnterChecks d night) tt _ _ (λ o. (lineNumber (o .0 .line) ≡ 15 → ⊥) × (lineNumber (o .0 .line) ≡ 6 → ⊥))
+      (λ _ _ e. (λ h. not-first 15 (logEnterChecks d night) tt (e ∙ h), λ h. not-first 6 (logEnterChecks d night) tt (e ∙ h)))
+      (λ _. (no-fifteen r (enter d night (take n (m .recording))), entry-no-six r d night (take n (m .recording))))
+
   item-number : (p : Phase) (i : Item) → Fits D p i → Follows calls c m p → (number p i ≡ 15 → ⊥) × (number p i ≡ 6 → ⊥)
   unfolding applied
   item-number p i (starts {N} {taps} {C}) (unbegun e f g) = (
@@ -107,10 +123,11 @@ module _ (D : ℕ) (c : Campaign) (m : Memory) (calls : List Call) where
     λ h. not-first 6 (logStartChecks N taps C) tt (sym (ap lineNumber (start-line p N taps C f)) ∙ h),
   )
   item-number p i opens (between r) = (λ h. omega arith, λ h. omega arith)
+  item-number p i captures (between r) = (λ h. omega arith, λ h. omega arith)
   item-number p i (withdraws {d}) (between r) = (no-fifteen r (withdraw d), withdrawal-no-six r d)
   item-number p i asks (between r) = (no-fifteen r (response (m .r) (m .mean) (m .room) (m .tags)), response-no-six r)
   item-number p i (samples h) (inside r) = (λ h. omega arith, λ h. omega arith)
-  item-number p i (enters {d} {n}) (inside r) = (no-fifteen r (enter d (take n (m .recording))), entry-no-six r d (take n (m .recording)))
+  item-number p i (enters {d} {n} {night}) (inside r) = entry-number d n night r
 
 module _ (n : ℕ) (input : List ℕ) where
   abbrev pub here : Place
@@ -176,6 +193,77 @@ module _ (n : ℕ) (input : List ℕ) (N taps C k : ℕ) (stands : standsAt (her
       (how-short N taps (logStartChecks N taps C) refl tt 0 .short e) in
       (prints-start ∙ ap (λ a. startLine (answerOf N taps a)) e, s .0, s .1)
 
+-- ---- what an entry prints, where one stands after n turns in an open day
+
+module _ (n : ℕ) (input : List ℕ) (k : ℕ) (stands : standsAt (here n input) (reached n input .left) true ≡ found.Whole item.Enter k) (d i : ℕ)
+    (night : Night) (day : here n input .book .phase ≡ phase.Open d night i) where
+  -- the record, the memory and the samples before it
+  abbrev c : Campaign
+  c = here n input .book .campaign
+
+  abbrev m : Memory
+  m = here n input .memory
+
+  abbrev y : List ℤ
+  y = reached n input .samples
+
+  applied-is : (o : Applied × List ℤ × List ℤ) → enteredOutcome c d night i (m .store) (m .sums) (m .recording) ≡ o
+      → applied (here n input .book) item.Enter m ≡ filing m o
+  unfolding applied
+  applied-is o e = ap (λ p. filing m (closedOutcome p c (m .store) (m .sums) (m .recording))) day ∙ ap (filing m) e
+
+  prints-line : (e : Entered) (store sums : List ℤ) → enteredOutcome c d night i (m .store) (m .sums) (m .recording) ≡ (enteredBy e, store, sums)
+      → said n input ≡ lineBytes (line.Entered (e .entry))
+  unfolding rowsBytes
+  prints-line e store sums q =
+      text-is n input item.Enter k stands ∙ ap printed (applied-is (enteredBy e, store, sums) q) ∙ append-nil (lineBytes (line.Entered (e .entry)))
+
+  calls-are : (a : ℕ) → first (logEnterChecks d night) ≡ a
+      → onward (reached n input) .calls ≡ answered a (λ _. []) (enter d night y ∷ []) ++ reached n input .calls
+  calls-are a e =
+      ap (λ f. callsAt (here n input) y f ++ reached n input .calls) stands
+      ∙ ap (λ p. entry p y ++ reached n input .calls) day
+      ∙ ap (λ b. answered b (λ _. []) (enter d night y ∷ []) ++ reached n input .calls) e
+
+  came : {p : Phase} → p ≡ phase.Open d night i → Sampled y (m .recording) p → unheld (periodsOf night) ≡ false → take i (m .recording) ≡ y
+  came e s = go (subst (Sampled y (m .recording)) e s)
+    where
+      go : Sampled y (m .recording) (phase.Open d night i) → unheld (periodsOf night) ≡ false → take i (m .recording) ≡ y
+      go (recording.inside f) = f
+
+  -- where the samples are not kept, the first of 10, 18, 17; and nothing is called, and the record and the memory stay
+  module _ (u : unheld (periodsOf night) ≡ true) where
+    pub prints-unkept : said n input ≡ lineBytes (line.Entered (record { day = d; verdict = verdict.Refused (unkeptAnswer d night) }))
+    prints-unkept =
+        prints-line (entered c d (verdict.Refused (unkeptAnswer d night))) (m .store) (m .sums)
+        (unkept-entry c d night i (m .store) (m .sums) (m .recording) u)
+
+    pub unkept-calls : onward (reached n input) .calls ≡ reached n input .calls
+    unkept-calls =
+        calls-are (unkeptAnswer d night) (unheld-refused d night u)
+        ∙ ap (λ l. l ++ reached n input .calls) (answered-refused (λ _. []) (enter d night y ∷ []) (unkeptAnswer d night) (unkept-refused d night))
+
+    pub unkept-stays : onward (reached n input) .place
+        ≡ record { book = record { phase = phase.Between; campaign = c }; memory = m; offset = here n input .offset + k; going = true }
+    unkept-stays =
+        ap (λ t. t .place)
+        (turns (here n input) (reached n input .left) true ∙ ap (turnOn (here n input)) stands
+        ∙ ap (took (here n input .offset) k)
+        (applied-is (refusing c d night i (m .store) (m .sums) (m .recording) (unkeptAnswer d night))
+        (unkept-entry c d night i (m .store) (m .sums) (m .recording) u)))
+
+  -- where they are, the answer of the entry with those that came since the day was opened
+  module _ (u : unheld (periodsOf night) ≡ false) where
+    pub prints-kept : said n input ≡ lineBytes (line.Entered (enterOutcome c (m .store) (m .sums) d night y .0 .entry))
+    prints-kept =
+        let o = enterOutcome c (m .store) (m .sums) d night in
+        prints-line (o (take i (m .recording)) .0) (o (take i (m .recording)) .1) (o (take i (m .recording)) .2)
+        (kept-entry c d night i (m .store) (m .sums) (m .recording) u)
+        ∙ ap (λ z. lineBytes (line.Entered (o z .0 .entry))) (came day (samples-held n input .day) u)
+
+    pub kept-calls : onward (reached n input) .calls ≡ enter d night y ∷ reached n input .calls
+    kept-calls = calls-are 0 (held-passes d night u)
+
 -- ---- the third demand, of what an ask prints
 
 module _ {calls : List Call} {c : Campaign} {m : Memory} (r : Running calls c m) where
@@ -210,20 +298,20 @@ module _ {calls : List Call} {c : Campaign} {m : Memory} (r : Running calls c m)
   rows-said p a z e =
       ap (λ n. answered n (λ _. 0) (dayLength (c .order))) (e ∙ z) ∙ ap dayLength (order-is r) ∙ ap (λ b. cond b (P (N r)) 0) (le-leb (N r) 9 (r .few))
 
-  module _ (h : ℕ → ℕ → ℤ)
-      (convolved : (d : ℕ) → Day d → made firstWorld calls d ≡ standing → (j : ℕ) → j < P (N r)
-      → at (heard firstWorld calls d) j ≡ prediction (P (N r)) (wave (N r) (taps r)) (h d) j) where
-    -- the sum of the responses of the days standing
-    abbrev pub total : ℕ → ℤ
-    total = every.total firstWorld calls (r .going) h convolved
+  module _ (h : ℕ → ℕ → ℕ → ℤ)
+      (convolved : (d : ℕ) → Day d → made firstWorld calls d ≡ standing → (p : ℕ) → p < heard firstWorld calls d .periods → (j : ℕ) → j < P (N r)
+      → at (heard firstWorld calls d .samples) (p * P (N r) + j) ≡ prediction (P (N r)) (wave (N r) (taps r)) (h d p) j) where
+    -- the sum of the responses of the periods of the days standing
+    abbrev pub responses : ℕ → ℤ
+    responses = every.responses firstWorld calls (r .going) h convolved
 
     recovered : (d : ℕ) → Day d → made firstWorld calls d ≡ standing
         → let o = responseOutcome c (m .store) (m .sums) (m .r) (m .mean) (m .room) (m .tags) in
-        (o .0 ≡ 0) × ((k : ℕ) → k < P (N r) → at (o .1) k ≡ pos (suc (P (N r))) *ℤ total k)
+        (o .0 ≡ 0) × ((k : ℕ) → k < P (N r) → at (o .1) k ≡ pos (suc (P (N r))) *ℤ responses k)
     recovered d y e =
         subst
         (λ (w : World). let o = responseOutcome (w .campaign) (w .store) (w .sums) (m .r) (m .mean) (m .room) (m .tags) in
-        (o .0 ≡ 0) × ((k : ℕ) → k < P (N r) → at (o .1) k ≡ pos (suc (P (N r))) *ℤ total k))
+        (o .0 ≡ 0) × ((k : ℕ) → k < P (N r) → at (o .1) k ≡ pos (suc (P (N r))) *ℤ responses k))
         (sym (r .world))
         (every.recovered firstWorld calls (r .going) h convolved d y e (m .r) (m .mean) (m .room) (m .tags) room-for)
 
@@ -249,13 +337,16 @@ module _ (n : ℕ) (input : List ℕ) (k : ℕ) (stands : standsAt (here n input
   prints-counts = text-is n input item.Ask k stands ∙ ap (λ l. lineBytes l ++ rowsBytes (askedHere .0 .rows) (askedHere .1 .r) (askedHere .1 .mean))
       (counts-said run-here (here n input .book .phase))
 
-  -- and where some day stands and the recordings then standing are convolutions of whole-number responses, (P+1) times the sum of these
-  module _ (h : ℕ → ℕ → ℤ)
-      (convolved : (d : ℕ) → Day d → made firstWorld (reached n input .calls) d ≡ standing → (j : ℕ) → j < P (N run-here)
-      → at (heard firstWorld (reached n input .calls) d) j ≡ prediction (P (N run-here)) (wave (N run-here) (taps run-here)) (h d) j) where
+  -- and where some day stands and each period of the recordings then standing is the convolution of a whole-number response of its own, (P+1) times
+  -- the sum of these
+  module _ (h : ℕ → ℕ → ℕ → ℤ)
+      (convolved : (d : ℕ) → Day d → made firstWorld (reached n input .calls) d ≡ standing → (p : ℕ) → p < heard firstWorld (reached n input .calls) d .periods
+      → (j : ℕ) → j < P (N run-here)
+      → at (heard firstWorld (reached n input .calls) d .samples) (p * P (N run-here) + j)
+      ≡ prediction (P (N run-here)) (wave (N run-here) (taps run-here)) (h d p) j) where
     pub prints-recovered : (d : ℕ) → Day d → made firstWorld (reached n input .calls) d ≡ standing
         → (said n input ≡ responseLine 0 (historyTally run-here) ++ rowsBytes (P (N run-here)) (askedHere .1 .r) (askedHere .1 .mean))
-        × ((j : ℕ) → j < P (N run-here) → at (askedHere .1 .r) j ≡ pos (suc (P (N run-here))) *ℤ total run-here h convolved j)
+        × ((j : ℕ) → j < P (N run-here) → at (askedHere .1 .r) j ≡ pos (suc (P (N run-here))) *ℤ responses run-here h convolved j)
     unfolding applied
     prints-recovered d y e =
         let q = recovered run-here h convolved d y e in (

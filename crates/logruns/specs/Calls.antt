@@ -1,4 +1,4 @@
--- Document 01, "The log program": the first turns of the program on a whole input, what they print, and the campaign's calls that they
+-- Document 01, "The log program", and document 02, request 1: the first turns of the program on a whole input, what they print, and the campaign's calls that they
 -- make. Assumes nothing.
 use mathlib.Core.List.{List, [], _∷_, _++_}
 use mathlib.Core.Bool.{true, cond}
@@ -16,7 +16,7 @@ use Rattle.log.specs.declared.Found.{Found}
 use Rattle.log.specs.declared.Found.the-variants as found
 use Rattle.report.specs.declared.Line.{Line}
 use Rattle.report.specs.declared.Line.the-variants as line
-use Rattle.logbook.specs.Book.{logStartChecks}
+use Rattle.logbook.specs.Book.{logStartChecks, logEnterChecks}
 use Rattle.logprogram.specs.Program.{Place, firstPlace, standsAt, turn}
 
 -- the record and the memory that the campaign's calls are given
@@ -36,6 +36,7 @@ samplesOf y (item.Sample v) = y ++ v ∷ []
 samplesOf y item.Enter = y
 samplesOf y (item.Withdraw d) = y
 samplesOf y item.Ask = y
+samplesOf y (item.Capture d m) = []
 
 abbrev pub samplesAt : List ℤ → Found → List ℤ
 samplesAt y (found.Whole i n) = samplesOf y i
@@ -45,11 +46,11 @@ samplesAt y found.End = y
 
 -- ---- the calls that an item makes, the latest first
 
--- the open day is entered with the samples that came
+-- the open day is entered with the samples that came, where the program's own checks pass
 abbrev pub entry : Phase → List ℤ → List Call
 entry phase.Unbegun y = []
 entry phase.Between y = []
-entry (phase.Open d n) y = enter d y ∷ []
+entry (phase.Open d night n) y = answered (first (logEnterChecks d night)) (λ _. []) (enter d night y ∷ [])
 entry phase.Stopped y = []
 
 -- a start is called where the program's own checks pass
@@ -60,6 +61,7 @@ callsOf p y (item.Sample v) = []
 callsOf p y item.Enter = entry (p .book .phase) y
 callsOf p y (item.Withdraw d) = withdraw d ∷ []
 callsOf p y item.Ask = counts ∷ response (p .memory .r) (p .memory .mean) (p .memory .room) (p .memory .tags) ∷ []
+callsOf p y (item.Capture d m) = []
 
 abbrev pub callsAt : Place → List ℤ → Found → List Call
 callsAt p y (found.Whole i n) = callsOf p y i

@@ -24,21 +24,21 @@ use Rattle.meter.specs.Doors.{tablesShort, recordOf, startDoorChecks, st
 use Rattle.meter.proofs.Opening.{long, put-backs}
 
 -- what a start comes to, behind the door
-abbrev pub startedOut : List ℕ → List ℕ → Started × List ℤ × List ℤ → ℕ × List ℕ × List ℕ × List ℤ × List ℤ
-startedOut days slots (s, store, sums) = (s .answer .number, put (s .campaign .days) days, put (s .campaign .slots) slots, store, sums)
+abbrev pub startedOut : List ℕ → List ℕ → List ℕ → Started × List ℤ × List ℤ → ℕ × List ℕ × List ℕ × List ℕ × List ℤ × List ℤ
+startedOut days slots periods (s, store, sums) = (s .answer .number, put (s .campaign .days) days, put (s .campaign .slots) slots, put (s .campaign .periods) periods, store, sums)
 
 no-memory : (N taps C : ℕ) → tapsAnswer N taps ≡ 0 → ltb 0 (C * P N) || ltb 0 (P N) ≡ true
 no-memory N taps C z =
     let s = accepted-exactly N taps .0 z .shaped .tapped .some in
     ap (λ b. ltb 0 (C * P N) || b) (lt-ltb 0 (P N) (omega (arith, pow-lt s))) ∙ or-true (ltb 0 (C * P N))
 
-module _ (N taps C : ℕ) (days slots : List ℕ) (store sums : List ℤ) where
+module _ (N taps C : ℕ) (days slots periods : List ℕ) (store sums : List ℤ) where
   -- what the door hands back, refused and accepted
-  abbrev back : ℕ → ℕ × List ℕ × List ℕ × List ℤ × List ℤ
-  back n = (n, days, slots, store, sums)
+  abbrev back : ℕ → ℕ × List ℕ × List ℕ × List ℕ × List ℤ × List ℤ
+  back n = (n, days, slots, periods, store, sums)
 
-  abbrev made : ℕ × List ℕ × List ℕ × List ℤ × List ℤ
-  made = (0, put (fresh N taps C .days) days, put (fresh N taps C .slots) slots, clearedWide (C * P N) store, clearedWide (P N) sums)
+  abbrev made : ℕ × List ℕ × List ℕ × List ℕ × List ℤ × List ℤ
+  made = (0, put (fresh N taps C .days) days, put (fresh N taps C .slots) slots, put (fresh N taps C .periods) periods, clearedWide (C * P N) store, clearedWide (P N) sums)
 
   abbrev memoryShort : Bool
   memoryShort = ltb (length store) (C * P N) || ltb (length sums) (P N)
@@ -48,7 +48,7 @@ module _ (N taps C : ℕ) (days slots : List ℕ) (store sums : List ℤ) where
   rest short = (9, slotsOut C) ∷ (6, short) ∷ []
 
   -- with a short table the answer is that of a start with no memory
-  pub short-refused : tablesShort days slots ≡ true → first (startChecks N taps C [] []) ≡ first (startDoorChecks N taps C days slots store sums)
+  pub short-refused : tablesShort days slots periods ≡ true → first (startChecks N taps C [] []) ≡ first (startDoorChecks N taps C days slots periods store sums)
   unfolding tapsAnswer
   short-refused h = by-taps (first (tapsChecks N taps)) refl ∙ ap (λ b. first (tapsChecks N taps ++ rest (b || memoryShort))) (sym h)
     where
@@ -60,30 +60,30 @@ module _ (N taps C : ℕ) (days slots : List ℕ) (store sums : List ℤ) where
           ∙ sym (refused-first (tapsChecks N taps) (rest true) (λ z. omega (arith, sym e ∙ z)))
 
   -- with long tables the checks are the call's own
-  pub long-checks : tablesShort days slots ≡ false → first (startDoorChecks N taps C days slots store sums) ≡ first (startChecks N taps C store sums)
+  pub long-checks : tablesShort days slots periods ≡ false → first (startDoorChecks N taps C days slots periods store sums) ≡ first (startChecks N taps C store sums)
   long-checks h = ap (λ b. first (tapsChecks N taps ++ rest (b || memoryShort))) h
 
-  pub start-opened : tablesShort days slots ≡ false → startDoor N taps C days slots store sums ≡ startedOut days slots (startOutcome (recordOf N taps C days slots) N taps C store sums)
+  pub start-opened : tablesShort days slots periods ≡ false → startDoor N taps C days slots periods store sums ≡ startedOut days slots periods (startOutcome (recordOf N taps C days slots periods) N taps C store sums)
   unfolding startDoor startOutcome
   start-opened h = ap (λ n. answered n back made) (long-checks h) ∙ by-answer (first (startChecks N taps C store sums))
     where
       by-answer : (n : ℕ) → answered n back made
-          ≡ startedOut days slots (answered n (λ n. (record { answer = answerOf N taps n; campaign = recordOf N taps C days slots }, store, sums)) (record { answer = answerOf N taps 0; campaign = fresh N taps C }, clearedWide (C * P N) store, clearedWide (P N) sums))
+          ≡ startedOut days slots periods (answered n (λ n. (record { answer = answerOf N taps n; campaign = recordOf N taps C days slots periods }, store, sums)) (record { answer = answerOf N taps 0; campaign = fresh N taps C }, clearedWide (C * P N) store, clearedWide (P N) sums))
       by-answer zero = refl
-      by-answer (suc n) = sym (put-backs days slots (long days slots h) (λ d t. (suc n, d, t, store, sums)))
+      by-answer (suc n) = sym (put-backs days slots periods (long days slots periods h) (λ d t p. (suc n, d, t, p, store, sums)))
 
-  -- past the checks both tables are long
-  checked-long : first (startDoorChecks N taps C days slots store sums) ≡ 0 → tablesShort days slots ≡ false
+  -- past the checks all tables are long
+  checked-long : first (startDoorChecks N taps C days slots periods store sums) ≡ 0 → tablesShort days slots periods ≡ false
   checked-long z =
-      let p = passes (startDoorChecks N taps C days slots store sums) tt z in
-      or-false (tablesShort days slots) memoryShort (p .1 .1 .1 .1 .1 .0) .0
+      let p = passes (startDoorChecks N taps C days slots periods store sums) tt z in
+      or-false (tablesShort days slots periods) memoryShort (p .1 .1 .1 .1 .1 .0) .0
 
-  pub short-some : tablesShort days slots ≡ true → first (startDoorChecks N taps C days slots store sums) ≡ 0 → ⊥
+  pub short-some : tablesShort days slots periods ≡ true → first (startDoorChecks N taps C days slots periods store sums) ≡ 0 → ⊥
   short-some h z = subst T (sym h ∙ checked-long z) tt
 
-  pub started-long : startDoor N taps C days slots store sums .0 ≡ 0 → (366 ≤ length days) × (64 ≤ length slots)
+  pub started-long : startDoor N taps C days slots periods store sums .0 ≡ 0 → (366 ≤ length days) × (64 ≤ length slots) × (64 ≤ length periods)
   unfolding startDoor
-  started-long z = long days slots (checked-long (by-answer (first (startDoorChecks N taps C days slots store sums)) z))
+  started-long z = long days slots periods (checked-long (by-answer (first (startDoorChecks N taps C days slots periods store sums)) z))
     where
       by-answer : (n : ℕ) → answered n back made .0 ≡ 0 → n ≡ 0
       by-answer zero z = refl

@@ -1,5 +1,5 @@
--- The doors of the campaign's calls: the record crosses as its order, taps and capacity and two lent tables, `days` of 366 and `slots` of 64,
--- and each door is the call's own outcome function between them. At a start a shorter table is room too short, 6 in its place; at every other call
+-- The doors of the campaign's calls: the record crosses as its order, taps and capacity and three lent tables, `days` of 366, `slots` of 64 and
+-- `periods` of 64, and each door is the call's own outcome function between them. At a start a shorter table is room too short, 6 in its place; at every other call
 -- it is refused with 15, before the call's checks. Either way nothing is touched; a longer table keeps its tail. Assumes nothing.
 use mathlib.Core.List.{List, [], _∷_, _++_}
 use mathlib.Core.Bool.{Bool, _||_}
@@ -12,6 +12,7 @@ use Rattle.sums.specs.Refusals.{outcome, meant}
 use Rattle.register.specs.Register.{P}
 use Rattle.register.specs.Calls.{tapsChecks}
 use Rattle.samples.specs.Samples.{clearedWide}
+use Rattle.nights.specs.declared.Night.{Night}
 use Rattle.records.specs.Record.{fresh}
 use Rattle.records.specs.declared.Campaign.{Campaign}
 use Rattle.campaign.specs.declared.Entered.{Entered}
@@ -26,86 +27,96 @@ use Rattle.trend.specs.Calls.{countsOutcome, responseOutcome, summaryOutcome, c
 -- ---- the record
 
 -- a table is short of 366 days or 64 slots
-abbrev pub tablesShort : List ℕ → List ℕ → Bool
-tablesShort days slots = ltb (length days) 366 || ltb (length slots) 64
+abbrev pub tablesShort : List ℕ → List ℕ → List ℕ → Bool
+tablesShort days slots periods = ltb (length days) 366 || (ltb (length slots) 64 || ltb (length periods) 64)
 
 -- the record that the caller lends
-abbrev pub recordOf : ℕ → ℕ → ℕ → List ℕ → List ℕ → Campaign
-recordOf N taps C days slots = record { order = N; taps = taps; capacity = C; days = take 366 days; slots = take 64 slots }
+abbrev pub recordOf : ℕ → ℕ → ℕ → List ℕ → List ℕ → List ℕ → Campaign
+recordOf N taps C days slots periods =
+    record { order = N; taps = taps; capacity = C; days = take 366 days; slots = take 64 slots; periods = take 64 periods }
 
 -- 15: a door behind that check
-abbrev pub behind : {A : Type 0} → List ℕ → List ℕ → (ℕ → A) → A → A
-behind days slots refused opened = outcome ((15, tablesShort days slots) ∷ []) refused opened
+abbrev pub behind : {A : Type 0} → List ℕ → List ℕ → List ℕ → (ℕ → A) → A → A
+behind days slots periods refused opened = outcome ((15, tablesShort days slots periods) ∷ []) refused opened
 
 -- ---- start: 1, 2, 3, 4, 9, 6; the answer, the tables, the store and the sums
 
-abbrev pub startDoorChecks : ℕ → ℕ → ℕ → List ℕ → List ℕ → List ℤ → List ℤ → List (ℕ × Bool)
-startDoorChecks N taps C days slots store sums =
+abbrev pub startDoorChecks : ℕ → ℕ → ℕ → List ℕ → List ℕ → List ℕ → List ℤ → List ℤ → List (ℕ × Bool)
+startDoorChecks N taps C days slots periods store sums =
     tapsChecks N taps
     ++ (9, slotsOut C)
-    ∷ (6, tablesShort days slots || (ltb (length store) (C * P N) || ltb (length sums) (P N)))
+    ∷ (6, tablesShort days slots periods || (ltb (length store) (C * P N) || ltb (length sums) (P N)))
     ∷ []
 
-unfoldable pub startDoor : ℕ → ℕ → ℕ → List ℕ → List ℕ → List ℤ → List ℤ → ℕ × List ℕ × List ℕ × List ℤ × List ℤ
-startDoor N taps C days slots store sums =
-    outcome (startDoorChecks N taps C days slots store sums) (λ n. (n, days, slots, store, sums)) (
+unfoldable pub startDoor : ℕ → ℕ → ℕ → List ℕ → List ℕ → List ℕ → List ℤ → List ℤ → ℕ × List ℕ × List ℕ × List ℕ × List ℤ × List ℤ
+startDoor N taps C days slots periods store sums =
+    outcome (startDoorChecks N taps C days slots periods store sums) (λ n. (n, days, slots, periods, store, sums)) (
       0,
       put (fresh N taps C .days) days,
       put (fresh N taps C .slots) slots,
+      put (fresh N taps C .periods) periods,
       clearedWide (C * P N) store,
       clearedWide (P N) sums,
     )
 
--- ---- enter: and the verdict
+-- ---- enter, of either kind of night: and the verdict
 
-abbrev pub enteredOut : List ℕ → List ℕ → ℕ → ℕ → Entered × List ℤ × List ℤ → ℕ × List ℕ × List ℕ × List ℤ × List ℤ × ℕ × ℕ
-enteredOut days slots state value (e, store, sums) = (
+abbrev pub enteredOut : List ℕ → List ℕ → List ℕ → ℕ → ℕ → Entered × List ℤ × List ℤ → ℕ × List ℕ × List ℕ × List ℕ × List ℤ × List ℤ × ℕ × ℕ
+enteredOut days slots periods state value (e, store, sums) = (
   verdictNumber (e .entry .verdict),
   put (e .campaign .days) days,
   put (e .campaign .slots) slots,
+  put (e .campaign .periods) periods,
   store,
   sums,
   verdictMeans (e .entry .verdict) .1 (state, value) .0,
   verdictMeans (e .entry .verdict) .1 (state, value) .1,
 )
 
-unfoldable pub enterDoor : ℕ → ℕ → ℕ → List ℕ → List ℕ → List ℤ → List ℤ → ℕ → List ℤ → ℕ → ℕ → ℕ × List ℕ × List ℕ × List ℤ × List ℤ × ℕ × ℕ
-enterDoor N taps C days slots store sums d y state value =
-    behind days slots (λ n. (n, days, slots, store, sums, state, value))
-    (enteredOut days slots state value (enterOutcome (recordOf N taps C days slots) store sums d y))
+unfoldable pub enterDoor : ℕ → ℕ → ℕ → List ℕ → List ℕ → List ℕ → List ℤ → List ℤ → ℕ → Night → List ℤ → ℕ → ℕ → ℕ × List ℕ × List ℕ × List ℕ × List ℤ × List ℤ × ℕ × ℕ
+enterDoor N taps C days slots periods store sums d night y state value =
+    behind days slots periods (λ n. (n, days, slots, periods, store, sums, state, value))
+    (enteredOut days slots periods state value (enterOutcome (recordOf N taps C days slots periods) store sums d night y))
 
 -- ---- withdraw
 
-abbrev pub withdrawnOut : List ℕ → List ℕ → Withdrawn × List ℤ × List ℤ → ℕ × List ℕ × List ℕ × List ℤ × List ℤ
-withdrawnOut days slots (w, store, sums) = (w .answer, put (w .campaign .days) days, put (w .campaign .slots) slots, store, sums)
+abbrev pub withdrawnOut : List ℕ → List ℕ → List ℕ → Withdrawn × List ℤ × List ℤ → ℕ × List ℕ × List ℕ × List ℕ × List ℤ × List ℤ
+withdrawnOut days slots periods (w, store, sums) = (
+  w .answer,
+  put (w .campaign .days) days,
+  put (w .campaign .slots) slots,
+  put (w .campaign .periods) periods,
+  store,
+  sums,
+)
 
-unfoldable pub withdrawDoor : ℕ → ℕ → ℕ → List ℕ → List ℕ → List ℤ → List ℤ → ℕ → ℕ × List ℕ × List ℕ × List ℤ × List ℤ
-withdrawDoor N taps C days slots store sums d =
-    behind days slots (λ n. (n, days, slots, store, sums))
-    (withdrawnOut days slots (withdrawOutcome (recordOf N taps C days slots) store sums d))
+unfoldable pub withdrawDoor : ℕ → ℕ → ℕ → List ℕ → List ℕ → List ℕ → List ℤ → List ℤ → ℕ → ℕ × List ℕ × List ℕ × List ℕ × List ℤ × List ℤ
+withdrawDoor N taps C days slots periods store sums d =
+    behind days slots periods (λ n. (n, days, slots, periods, store, sums))
+    (withdrawnOut days slots periods (withdrawOutcome (recordOf N taps C days slots periods) store sums d))
 
 -- ---- counts: the answer and the days in each state
 
 abbrev pub countedOut : Tally → Counts → ℕ × Tally
 countedOut was c = meant was (countsMeans c)
 
-unfoldable pub countsDoor : ℕ → ℕ → ℕ → List ℕ → List ℕ → List ℤ → List ℤ → Tally → ℕ × Tally
-countsDoor N taps C days slots store sums was =
-    behind days slots (λ n. (n, was)) (countedOut was (countsOutcome (recordOf N taps C days slots) store sums))
+unfoldable pub countsDoor : ℕ → ℕ → ℕ → List ℕ → List ℕ → List ℕ → List ℤ → List ℤ → Tally → ℕ × Tally
+countsDoor N taps C days slots periods store sums was =
+    behind days slots periods (λ n. (n, was)) (countedOut was (countsOutcome (recordOf N taps C days slots periods) store sums))
 
 -- ---- response: the answer, r, the mean, the wide room and the tags
 
-unfoldable pub responseDoor : ℕ → ℕ → ℕ → List ℕ → List ℕ → List ℤ → List ℤ → List ℤ → List ℤ → List ℤ → List ℕ → ℕ × List ℤ × List ℤ × List ℤ × List ℕ
-responseDoor N taps C days slots store sums r mean room tags =
-    behind days slots (λ n. (n, r, mean, room, tags))
-    (responseOutcome (recordOf N taps C days slots) store sums r mean room tags)
+unfoldable pub responseDoor : ℕ → ℕ → ℕ → List ℕ → List ℕ → List ℕ → List ℤ → List ℤ → List ℤ → List ℤ → List ℤ → List ℕ → ℕ × List ℤ × List ℤ × List ℤ × List ℕ
+responseDoor N taps C days slots periods store sums r mean room tags =
+    behind days slots periods (λ n. (n, r, mean, room, tags))
+    (responseOutcome (recordOf N taps C days slots periods) store sums r mean room tags)
 
 -- ---- summary: the answer, the wide room and the tags, whether some day stands, and the levels, which are written where one does
 
 abbrev pub summedOut : ℕ → Levels → Summary × List ℤ × List ℕ → ℕ × List ℤ × List ℕ × ℕ × Levels
 summedOut stood was (s, room, tags) = (summaryNumber s, room, tags, summaryMeans s .1 (stood, was) .0, summaryMeans s .1 (stood, was) .1)
 
-unfoldable pub summaryDoor : ℕ → ℕ → ℕ → List ℕ → List ℕ → List ℤ → List ℤ → List ℤ → List ℕ → ℕ → Levels → ℕ × List ℤ × List ℕ × ℕ × Levels
-summaryDoor N taps C days slots store sums room tags stood was =
-    behind days slots (λ n. (n, room, tags, stood, was))
-    (summedOut stood was (summaryOutcome (recordOf N taps C days slots) store sums room tags))
+unfoldable pub summaryDoor : ℕ → ℕ → ℕ → List ℕ → List ℕ → List ℕ → List ℤ → List ℤ → List ℤ → List ℕ → ℕ → Levels → ℕ × List ℤ × List ℕ × ℕ × Levels
+summaryDoor N taps C days slots periods store sums room tags stood was =
+    behind days slots periods (λ n. (n, room, tags, stood, was))
+    (summedOut stood was (summaryOutcome (recordOf N taps C days slots periods) store sums room tags))

@@ -1,4 +1,4 @@
-// The doors of a campaign's calls: the record crosses as three numbers and two lent tables.
+// The doors of a campaign's calls: the record crosses as three numbers and three lent tables.
 use crate::periods::write_answer;
 use crate::tables::read_record;
 use crate::tables::tables_short;
@@ -10,12 +10,14 @@ use campaign::entering::enter;
 use campaign::starting::start;
 use campaign::starting::start_refusal;
 use campaign::withdrawing::withdraw;
+use nights::Night;
 use register::telling::tell;
 use trend::answering::response;
 use trend::counting::counts;
 use trend::summarising::summary;
 ghost use mathlib.Core.Path.{_≡_};
 ghost use Rattle.register.specs.Calls.{told};
+ghost use Rattle.nights.specs.Nights.{period, capture};
 ghost use Rattle.meter.specs.Doors.{startDoor, enterDoor, withdrawDoor, countsDoor, responseDoor, summaryDoor};
 
 // A short table is room too short, so the start is refused as one that is lent no memory.
@@ -26,24 +28,57 @@ pub extern "C" fn meter_start(
     capacity: u32,
     days: &mut [u8],
     slots: &mut [u16],
+    periods: &mut [u8],
     store: &mut [i32],
     sums: &mut [i64],
     period: &mut u32,
 ) -> u32
-    ensures { λ r. ⌜ ((r, now (days .exit), now (slots .exit), now (store .exit), now (sums .exit))
-        ≡ startDoor order taps capacity (now (days .entry)) (now (slots .entry)) (now (store .entry)) (now (sums .entry)))
+    ensures { λ r. ⌜ ((r, now (days .exit), now (slots .exit), now (periods .exit), now (store .exit), now (sums .exit))
+        ≡ startDoor order taps capacity (now (days .entry)) (now (slots .entry)) (now (periods .entry)) (now (store .entry)) (now (sums .entry)))
         × (now (period .exit) ≡ told order taps r (now (period .entry))) ⌝ }
 {
-    if tables_short(days.len(), slots.len()) {
+    if tables_short(days.len(), slots.len(), periods.len()) {
         let refusal = start_refusal(order, taps, capacity, 0, 0);
         return write_answer(tell(order, taps, refusal), period);
     }
-    let c = read_record(order, taps, capacity, days, slots);
+    let c = read_record(order, taps, capacity, days, slots, periods);
     let started = start(c, order, taps, capacity, store, sums);
     let made = started.campaign;
-    write_record(made, days, slots);
+    write_record(made, days, slots, periods);
     let answer = started.answer;
     write_answer(answer, period)
+}
+
+// Either kind of night.
+fn enter_night(
+    order: u32,
+    taps: u32,
+    capacity: u32,
+    days: &mut [u8],
+    slots: &mut [u16],
+    periods: &mut [u8],
+    store: &mut [i32],
+    sums: &mut [i64],
+    day: u32,
+    night: Night,
+    y: &[i32],
+    state: &mut u32,
+    value: &mut usize,
+) -> u32
+    ensures { λ r. ⌜ (r, now (days .exit), now (slots .exit), now (periods .exit), now (store .exit), now (sums .exit), now (state .exit), now (value .exit))
+        ≡ enterDoor order taps capacity (now (days .entry)) (now (slots .entry)) (now (periods .entry)) (now (store .entry)) (now (sums .entry)) day night (now (y .entry))
+        (now (state .entry)) (now (value .entry)) ⌝ }
+{
+    if tables_short(days.len(), slots.len(), periods.len()) {
+        return 15;
+    }
+    let c = read_record(order, taps, capacity, days, slots, periods);
+    let entered = enter(c, store, sums, day, night, y);
+    let made = entered.campaign;
+    write_record(made, days, slots, periods);
+    let entry = entered.entry;
+    let verdict = entry.verdict;
+    write_verdict(verdict, state, value)
 }
 
 #[no_mangle]
@@ -53,6 +88,7 @@ pub extern "C" fn meter_enter(
     capacity: u32,
     days: &mut [u8],
     slots: &mut [u16],
+    periods: &mut [u8],
     store: &mut [i32],
     sums: &mut [i64],
     day: u32,
@@ -60,20 +96,62 @@ pub extern "C" fn meter_enter(
     state: &mut u32,
     value: &mut usize,
 ) -> u32
-    ensures { λ r. ⌜ (r, now (days .exit), now (slots .exit), now (store .exit), now (sums .exit), now (state .exit), now (value .exit))
-        ≡ enterDoor order taps capacity (now (days .entry)) (now (slots .entry)) (now (store .entry)) (now (sums .entry)) day (now (y .entry))
+    ensures { λ r. ⌜ (r, now (days .exit), now (slots .exit), now (periods .exit), now (store .exit), now (sums .exit), now (state .exit), now (value .exit))
+        ≡ enterDoor order taps capacity (now (days .entry)) (now (slots .entry)) (now (periods .entry)) (now (store .entry)) (now (sums .entry)) day period (now (y .entry))
         (now (state .entry)) (now (value .entry)) ⌝ }
 {
-    if tables_short(days.len(), slots.len()) {
-        return 15;
-    }
-    let c = read_record(order, taps, capacity, days, slots);
-    let entered = enter(c, store, sums, day, y);
-    let made = entered.campaign;
-    write_record(made, days, slots);
-    let entry = entered.entry;
-    let verdict = entry.verdict;
-    write_verdict(verdict, state, value)
+    enter_night(
+        order,
+        taps,
+        capacity,
+        days,
+        slots,
+        periods,
+        store,
+        sums,
+        day,
+        Night::Period,
+        y,
+        state,
+        value,
+    )
+}
+
+#[no_mangle]
+pub extern "C" fn meter_capture(
+    order: u32,
+    taps: u32,
+    capacity: u32,
+    days: &mut [u8],
+    slots: &mut [u16],
+    periods: &mut [u8],
+    store: &mut [i32],
+    sums: &mut [i64],
+    day: u32,
+    m: u32,
+    y: &[i32],
+    state: &mut u32,
+    value: &mut usize,
+) -> u32
+    ensures { λ r. ⌜ (r, now (days .exit), now (slots .exit), now (periods .exit), now (store .exit), now (sums .exit), now (state .exit), now (value .exit))
+        ≡ enterDoor order taps capacity (now (days .entry)) (now (slots .entry)) (now (periods .entry)) (now (store .entry)) (now (sums .entry)) day (capture m) (now (y .entry))
+        (now (state .entry)) (now (value .entry)) ⌝ }
+{
+    enter_night(
+        order,
+        taps,
+        capacity,
+        days,
+        slots,
+        periods,
+        store,
+        sums,
+        day,
+        Night::Capture(m),
+        y,
+        state,
+        value,
+    )
 }
 
 #[no_mangle]
@@ -83,20 +161,21 @@ pub extern "C" fn meter_withdraw(
     capacity: u32,
     days: &mut [u8],
     slots: &mut [u16],
+    periods: &mut [u8],
     store: &mut [i32],
     sums: &mut [i64],
     day: u32,
 ) -> u32
-    ensures { λ r. ⌜ (r, now (days .exit), now (slots .exit), now (store .exit), now (sums .exit))
-        ≡ withdrawDoor order taps capacity (now (days .entry)) (now (slots .entry)) (now (store .entry)) (now (sums .entry)) day ⌝ }
+    ensures { λ r. ⌜ (r, now (days .exit), now (slots .exit), now (periods .exit), now (store .exit), now (sums .exit))
+        ≡ withdrawDoor order taps capacity (now (days .entry)) (now (slots .entry)) (now (periods .entry)) (now (store .entry)) (now (sums .entry)) day ⌝ }
 {
-    if tables_short(days.len(), slots.len()) {
+    if tables_short(days.len(), slots.len(), periods.len()) {
         return 15;
     }
-    let c = read_record(order, taps, capacity, days, slots);
+    let c = read_record(order, taps, capacity, days, slots, periods);
     let withdrawn = withdraw(c, store, sums, day);
     let made = withdrawn.campaign;
-    write_record(made, days, slots);
+    write_record(made, days, slots, periods);
     withdrawn.answer
 }
 
@@ -107,6 +186,7 @@ pub extern "C" fn meter_response(
     capacity: u32,
     days: &[u8],
     slots: &[u16],
+    periods: &[u8],
     store: &[i32],
     sums: &[i64],
     r: &mut [i64],
@@ -115,13 +195,13 @@ pub extern "C" fn meter_response(
     tags: &mut [u16],
 ) -> u32
     ensures { λ x. ⌜ (x, now (r .exit), now (mean .exit), now (room .exit), now (tags .exit))
-        ≡ responseDoor order taps capacity (now (days .entry)) (now (slots .entry)) (now (store .entry)) (now (sums .entry))
+        ≡ responseDoor order taps capacity (now (days .entry)) (now (slots .entry)) (now (periods .entry)) (now (store .entry)) (now (sums .entry))
         (now (r .entry)) (now (mean .entry)) (now (room .entry)) (now (tags .entry)) ⌝ }
 {
-    if tables_short(days.len(), slots.len()) {
+    if tables_short(days.len(), slots.len(), periods.len()) {
         return 15;
     }
-    let c = read_record(order, taps, capacity, days, slots);
+    let c = read_record(order, taps, capacity, days, slots, periods);
     response(c, store, sums, r, mean, room, tags)
 }
 
@@ -132,6 +212,7 @@ pub extern "C" fn meter_counts(
     capacity: u32,
     days: &[u8],
     slots: &[u16],
+    periods: &[u8],
     store: &[i32],
     sums: &[i64],
     unseen: &mut u32,
@@ -141,13 +222,13 @@ pub extern "C" fn meter_counts(
     withdrawn: &mut u32,
 ) -> u32
     ensures { λ r. ⌜ (r, record { unseen = now (unseen .exit); standing = now (standing .exit); overloaded = now (overloaded .exit); dead = now (dead .exit); withdrawn = now (withdrawn .exit) })
-        ≡ countsDoor order taps capacity (now (days .entry)) (now (slots .entry)) (now (store .entry)) (now (sums .entry))
+        ≡ countsDoor order taps capacity (now (days .entry)) (now (slots .entry)) (now (periods .entry)) (now (store .entry)) (now (sums .entry))
         (record { unseen = now (unseen .entry); standing = now (standing .entry); overloaded = now (overloaded .entry); dead = now (dead .entry); withdrawn = now (withdrawn .entry) }) ⌝ }
 {
-    if tables_short(days.len(), slots.len()) {
+    if tables_short(days.len(), slots.len(), periods.len()) {
         return 15;
     }
-    let c = read_record(order, taps, capacity, days, slots);
+    let c = read_record(order, taps, capacity, days, slots, periods);
     let counted = counts(c, store, sums);
     write_counts(counted, unseen, standing, overloaded, dead, withdrawn)
 }
@@ -159,6 +240,7 @@ pub extern "C" fn meter_summary(
     capacity: u32,
     days: &[u8],
     slots: &[u16],
+    periods: &[u8],
     store: &[i32],
     sums: &[i64],
     room: &mut [i64],
@@ -169,14 +251,14 @@ pub extern "C" fn meter_summary(
     peak: &mut f64,
 ) -> u32
     ensures { λ x. ⌜ (x, now (room .exit), now (tags .exit), now (stands .exit), record { highest = now (highest .exit); lowest = now (lowest .exit); peak = now (peak .exit) })
-        ≡ summaryDoor order taps capacity (now (days .entry)) (now (slots .entry)) (now (store .entry)) (now (sums .entry))
+        ≡ summaryDoor order taps capacity (now (days .entry)) (now (slots .entry)) (now (periods .entry)) (now (store .entry)) (now (sums .entry))
         (now (room .entry)) (now (tags .entry)) (now (stands .entry))
         (record { highest = now (highest .entry); lowest = now (lowest .entry); peak = now (peak .entry) }) ⌝ }
 {
-    if tables_short(days.len(), slots.len()) {
+    if tables_short(days.len(), slots.len(), periods.len()) {
         return 15;
     }
-    let c = read_record(order, taps, capacity, days, slots);
+    let c = read_record(order, taps, capacity, days, slots, periods);
     let found = summary(c, store, sums, room, tags);
     write_summary(found, stands, highest, lowest, peak)
 }

@@ -33,8 +33,11 @@ pub enum Word {
     RefusedStart,
 }
 
-// The period of the largest order that the program takes, its wide room, and the store of the most slots.
+// The period of the largest order that the program takes, the longest night that it keeps, of five periods, its wide room, and the store of the
+// most slots.
 const PERIOD: usize = 511;
+
+const NIGHT: usize = 2555;
 
 const ROOM: usize = 512;
 
@@ -46,7 +49,7 @@ fn main() {
     let mut out = io::large_buffer();
     let mut store: [i32; STORE] = [0; STORE];
     let mut sums: [i64; PERIOD] = [0; PERIOD];
-    let mut recording: [i32; PERIOD] = [0; PERIOD];
+    let mut recording: [i32; NIGHT] = [0; NIGHT];
     let mut r: [i64; PERIOD] = [0; PERIOD];
     let mut mean: [i32; PERIOD] = [0; PERIOD];
     let mut room: [i64; ROOM] = [0; ROOM];

@@ -1,7 +1,7 @@
 -- Holding together, as a fact for each clause: the test of the specification holds exactly where these facts do. Assumes nothing.
-use mathlib.Core.Path.{_≡_, ap}
+use mathlib.Core.Path.{_≡_, sym, ap, _∙_}
 use mathlib.Core.Logic.{_↔_}
-use mathlib.Core.Bool.{Bool, true, false, not, _&&_, _||_}
+use mathlib.Core.Bool.{Bool, true, false, cond, not, _&&_, _||_}
 use mathlib.Core.List.{List}
 use Prim.Native.Nat.{ℕ, _+_, _*_, _≤_, _<_}
 use native.Mathlib.Decide.{decLt, ℕ-discrete}
@@ -15,8 +15,8 @@ use Rattle.sums.proofs.Everywhere.{and-true, both-true, every-at, every-all, or
 use Rattle.register.specs.Register.{P, Accepted}
 use Rattle.register.specs.Calls.{tapsAnswer}
 use Rattle.register.proofs.Judged.{accepted-exactly}
-use Rattle.records.specs.Record.{standing, withdrawn, state, stands, slot, free, sample, usedTotal, tapsHold, slotsHold, statesHold, pastFree, roomHolds, slotsStand, oneSlot, usedInside, freeZero, sumsHold, together, apart}
-use Rattle.samples.specs.Samples.{inside}
+use Rattle.records.specs.Record.{standing, withdrawn, state, stands, slot, free, periods, sample, usedTotal, tapsHold, slotsHold, statesHold, pastFree, roomHolds, slotsStand, oneSlot, periodsHold, usedWithin, freeZero, sumsHold, together, apart}
+use Rattle.samples.specs.Samples.{within}
 use Rattle.sums.specs.Equal.{eqZ}
 use Rattle.records.specs.declared.Campaign.{Campaign}
 use Rattle.sums.proofs.Equal.{eqZ-same, eqZ-is}
@@ -30,24 +30,31 @@ pub record Filed (c : Campaign) : Type 0 where
   pub past : (s : ℕ) → s < 64 → c .capacity ≤ s → slot c s ≡ 0
   pub named : (s : ℕ) → s < c .capacity → (slot c s ≡ 0 → ⊥) → (slot c s ≤ 366) × (state c (slot c s) ≡ standing)
   pub one : (i : ℕ) → i < 366 → state c (i + 1) ≡ standing → many (c .capacity) (λ s. eqb (slot c s) (i + 1)) ≡ 1
+  pub counted : (s : ℕ) → s < 64 → (slot c s ≡ 0 → ⊥) → (1 ≤ periods c s) × (periods c s ≤ 16)
+  pub uncounted : (s : ℕ) → s < 64 → slot c s ≡ 0 → periods c s ≡ 0
 
 -- and with the lent memory
 pub record Together (c : Campaign) (store sums : List ℤ) : Type 0 where
   pub filed : Filed c
   pub store-long : c .capacity * P (c .order) ≤ length store
   pub sums-long : P (c .order) ≤ length sums
-  pub used : (s : ℕ) → s < c .capacity → (slot c s ≡ 0 → ⊥) → (j : ℕ) → j < P (c .order) → inside (sample c store s j) ≡ true
+  pub used : (s : ℕ) → s < c .capacity → (slot c s ≡ 0 → ⊥) → (j : ℕ) → j < P (c .order) → within (periods c s) (sample c store s j) ≡ true
   pub zeros : (s : ℕ) → s < c .capacity → slot c s ≡ 0 → (j : ℕ) → j < P (c .order) → sample c store s j ≡ pos 0
   pub total : (j : ℕ) → j < P (c .order) → at sums j ≡ usedTotal c store j
 
 -- the tests of the slots and of the days' states
 abbrev pub filedTests : Campaign → Bool
-filedTests c = slotsHold c && statesHold c && pastFree c && slotsStand c && oneSlot c
+filedTests c = slotsHold c && statesHold c && pastFree c && slotsStand c && oneSlot c && periodsHold c
 
 module _ (c : Campaign) where
+  -- the test of a slot's periods, of one that is free or not
+  abbrev periods-test : ℕ → Bool → Bool
+  periods-test s b = cond b (eqb (periods c s) 0) (leb 1 (periods c s) && leb (periods c s) 16)
+
   pub filed-by : tapsHold c ≡ true → filedTests c ≡ true → Filed c
   filed-by taps h =
-      let k4 = and-true _ (oneSlot c) h in
+      let k5 = and-true _ (periodsHold c) h in
+      let k4 = and-true _ (oneSlot c) (k5 .0) in
       let k3 = and-true _ (slotsStand c) (k4 .0) in
       let k2 = and-true _ (pastFree c) (k3 .0) in
       let k1 = and-true (slotsHold c) (statesHold c) (k2 .0) in
@@ -64,24 +71,29 @@ module _ (c : Campaign) where
         one = λ i l q.
             eqb-true (many (c .capacity) (λ s. eqb (slot c s) (i + 1))) 1
             (or-rest (not (stands c (i + 1))) _ (every-at 366 _ (k4 .1) i l) (ap not (eq-eqb (state c (i + 1)) standing q)));
+        counted = λ s l u.
+            let two = and-true (leb 1 (periods c s)) (leb (periods c s) 16) (sym (ap (periods-test s) (ne-eqb (slot c s) 0 u)) ∙ every-at 64 _ (k5 .1) s l) in
+            (leb-true 1 (periods c s) (two .0), leb-true (periods c s) 16 (two .1));
+        uncounted = λ s l e. eqb-true (periods c s) 0 (sym (ap (periods-test s) (eq-eqb (slot c s) 0 e)) ∙ every-at 64 _ (k5 .1) s l);
       }
 
 module _ (c : Campaign) (store sums : List ℤ) where
   -- the tests one by one
   tests : together c store sums ≡ true
-      → (tapsHold c ≡ true) × (filedTests c ≡ true) × (roomHolds c store sums ≡ true) × (usedInside c store ≡ true) × (freeZero c store ≡ true) × (sumsHold c store sums ≡ true)
+      → (tapsHold c ≡ true) × (filedTests c ≡ true) × (roomHolds c store sums ≡ true) × (usedWithin c store ≡ true) × (freeZero c store ≡ true) × (sumsHold c store sums ≡ true)
   unfolding together
   tests h =
       let k9 = and-true _ (sumsHold c store sums) h in
       let k8 = and-true _ (freeZero c store) (k9 .0) in
-      let k7 = and-true _ (usedInside c store) (k8 .0) in
-      let k6 = and-true _ (oneSlot c) (k7 .0) in
+      let k7 = and-true _ (usedWithin c store) (k8 .0) in
+      let kp = and-true _ (periodsHold c) (k7 .0) in
+      let k6 = and-true _ (oneSlot c) (kp .0) in
       let k5 = and-true _ (slotsStand c) (k6 .0) in
       let k4 = and-true _ (roomHolds c store sums) (k5 .0) in
       let k3 = and-true _ (pastFree c) (k4 .0) in
       let k2 = and-true _ (statesHold c) (k3 .0) in
       let k1 = and-true (tapsHold c) (slotsHold c) (k2 .0) in
-      (k1 .0, both-true (both-true (both-true (both-true (k1 .1) (k2 .1)) (k3 .1)) (k5 .1)) (k6 .1), k4 .1, k7 .1, k8 .1, k9 .1)
+      (k1 .0, both-true (both-true (both-true (both-true (both-true (k1 .1) (k2 .1)) (k3 .1)) (k5 .1)) (k6 .1)) (kp .1), k4 .1, k7 .1, k8 .1, k9 .1)
 
   pub filed-tests : together c store sums ≡ true → filedTests c ≡ true
   filed-tests h = tests h .1
@@ -114,6 +126,7 @@ module _ (c : Campaign) (store sums : List ℤ) where
       (both-true
       (both-true
       (both-true
+      (both-true
       (eq-eqb (tapsAnswer (c .order) (c .taps)) 0 (accepted-exactly (c .order) (c .taps) .1 (f .accepted)))
       (both-true (le-leb 1 (c .capacity) (f .least)) (le-leb (c .capacity) 64 (f .most))))
       (every-all 366 _ (λ i l. le-leb (state c (i + 1)) withdrawn (f .states i l))))
@@ -121,6 +134,7 @@ module _ (c : Campaign) (store sums : List ℤ) where
       (both-true (le-leb (c .capacity * P (c .order)) (length store) (t .store-long)) (le-leb (P (c .order)) (length sums) (t .sums-long))))
       (every-all (c .capacity) _ (λ s l. named s l)))
       (every-all 366 _ (λ i l. one i l)))
+      (every-all 64 _ (λ s l. counted s l)))
       (every-all (c .capacity) _ (λ s l. used s l)))
       (every-all (c .capacity) _ (λ s l. zeros s l)))
       (every-all (P (c .order)) _ (λ j l. eqZ-same (t .total j l)))
@@ -145,7 +159,14 @@ module _ (c : Campaign) (store sums : List ℤ) where
         | no e ↦ or-left (not (stands c (i + 1))) _ (ap not (ne-eqb (state c (i + 1)) standing e))
       ]
 
-      used : (s : ℕ) → s < c .capacity → free c s || every (P (c .order)) (λ j. inside (sample c store s j)) ≡ true
+      counted : (s : ℕ) → s < 64 → periods-test c s (free c s) ≡ true
+      counted s l = elim (ℕ-discrete (slot c s) 0) [
+        | yes e ↦ ap (periods-test c s) (eq-eqb (slot c s) 0 e) ∙ eq-eqb (periods c s) 0 (t .filed .uncounted s l e)
+        | no e ↦ let n = t .filed .counted s l e in
+            ap (periods-test c s) (ne-eqb (slot c s) 0 e) ∙ both-true (le-leb 1 (periods c s) (n .0)) (le-leb (periods c s) 16 (n .1))
+      ]
+
+      used : (s : ℕ) → s < c .capacity → free c s || every (P (c .order)) (λ j. within (periods c s) (sample c store s j)) ≡ true
       used s l = elim (ℕ-discrete (slot c s) 0) [
         | yes e ↦ or-left (free c s) _ (eq-eqb (slot c s) 0 e)
         | no e ↦ or-right (free c s) _ (every-all (P (c .order)) _ (λ j k. t .used s l e j k))

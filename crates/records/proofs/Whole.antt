@@ -20,7 +20,7 @@ both-ways false b h g = sym (never-true b (λ e. true≢false (sym (g e))))
 
 module _ (c : Campaign) (store sums : List ℤ) where
   abbrev pub AllPlaces : Type 0
-  AllPlaces = Block (c .slots) (c .capacity) (P (c .order)) store sums 0 (P (c .order))
+  AllPlaces = Block (c .slots) (c .periods) (c .capacity) (P (c .order)) store sums 0 (P (c .order))
 
   pub whole : Filed c → c .capacity * P (c .order) ≤ length store → P (c .order) ≤ length sums → AllPlaces → Together c store sums
   whole f a b k =

@@ -1,4 +1,4 @@
--- Document 01, "The campaign": the record of a campaign, and when it holds together with the store and the sums that the caller lends.
+-- Document 01, "The campaign", and document 02, request 1: the record of a campaign, and when it holds together with the store and the sums that the caller lends.
 -- Assumes nothing.
 use mathlib.Core.List.{List}
 use mathlib.Core.Bool.{Bool, cond, not, _&&_, _||_}
@@ -6,10 +6,10 @@ use Prim.Native.Nat.{ℕ, _+_, _-_, _*_}
 use lib.Dec.{eqb, ltb, leb}
 use lib.IntN.{ℤ, pos}
 use lib.ListN.{length, getD, set, replicate}
-use Rattle.sums.specs.Sum.{sum}
+use Rattle.sums.specs.Sum.{sum, total}
 use Rattle.sums.specs.Lists.{at, every, many}
 use Rattle.sums.specs.Equal.{eqZ}
-use Rattle.samples.specs.Samples.{inside}
+use Rattle.samples.specs.Samples.{within}
 use Rattle.register.specs.Register.{P}
 use Rattle.register.specs.Calls.{tapsAnswer}
 use Rattle.records.specs.declared.Campaign.{Campaign}
@@ -51,6 +51,13 @@ slot c s = getD (c .slots) s 0
 abbrev pub free : Campaign → ℕ → Bool
 free c s = eqb (slot c s) 0
 
+-- how many periods its day's night had, 0 where it is free; and those of all days standing
+abbrev pub periods : Campaign → ℕ → ℕ
+periods c s = getD (c .periods) s 0
+
+abbrev pub periodsStanding : Campaign → ℕ
+periodsStanding c = total (c .capacity) (periods c)
+
 -- where slot s lies in the store, and its sample at place j
 abbrev pub base : Campaign → ℕ → ℕ
 base c s = s * P (c .order)
@@ -66,15 +73,23 @@ usedTotal c store j = sum (c .capacity) (λ s. cond (free c s) (pos 0) (sample c
 
 -- every day unseen, every slot free
 abbrev pub fresh : ℕ → ℕ → ℕ → Campaign
-fresh N taps C = record { order = N; taps = taps; capacity = C; days = replicate 366 unseen; slots = replicate 64 0 }
+fresh N taps C = record { order = N; taps = taps; capacity = C; days = replicate 366 unseen; slots = replicate 64 0; periods = replicate 64 0 }
 
 -- day d in the state q
 abbrev pub marked : Campaign → ℕ → ℕ → Campaign
-marked c d q = record { order = c .order; taps = c .taps; capacity = c .capacity; days = set (c .days) (d - 1) q; slots = c .slots }
+marked c d q = record { order = c .order; taps = c .taps; capacity = c .capacity; days = set (c .days) (d - 1) q; slots = c .slots; periods = c .periods }
 
--- and slot s with the day t
-abbrev pub filed : Campaign → ℕ → ℕ → ℕ → ℕ → Campaign
-filed c d q s t = record { order = c .order; taps = c .taps; capacity = c .capacity; days = set (c .days) (d - 1) q; slots = set (c .slots) s t }
+-- and slot s with the day t, of m periods
+abbrev pub filed : Campaign → ℕ → ℕ → ℕ → ℕ → ℕ → Campaign
+filed c d q s t m =
+    record {
+      order = c .order;
+      taps = c .taps;
+      capacity = c .capacity;
+      days = set (c .days) (d - 1) q;
+      slots = set (c .slots) s t;
+      periods = set (c .periods) s m;
+    }
 
 -- ---- a record holds together when
 
@@ -106,9 +121,13 @@ slotsStand c = every (c .capacity) (λ s. free c s || (leb (slot c s) 366 && sta
 abbrev pub oneSlot : Campaign → Bool
 oneSlot c = every 366 (λ i. not (stands c (i + 1)) || eqb (many (c .capacity) (λ s. eqb (slot c s) (i + 1))) 1)
 
--- used slots hold samples strictly between the rails
-abbrev pub usedInside : Campaign → List ℤ → Bool
-usedInside c store = every (c .capacity) (λ s. free c s || every (P (c .order)) (λ j. inside (sample c store s j)))
+-- a used slot has 1 to 16 periods, every other of the 64 none
+abbrev pub periodsHold : Campaign → Bool
+periodsHold c = every 64 (λ s. cond (free c s) (eqb (periods c s) 0) (leb 1 (periods c s) && leb (periods c s) 16))
+
+-- used slots hold what so many samples strictly between the rails may add up to
+abbrev pub usedWithin : Campaign → List ℤ → Bool
+usedWithin c store = every (c .capacity) (λ s. free c s || every (P (c .order)) (λ j. within (periods c s) (sample c store s j)))
 
 -- free slots hold zeros
 abbrev pub freeZero : Campaign → List ℤ → Bool
@@ -127,7 +146,8 @@ together c store sums =
     && roomHolds c store sums
     && slotsStand c
     && oneSlot c
-    && usedInside c store
+    && periodsHold c
+    && usedWithin c store
     && freeZero c store
     && sumsHold c store sums
 

@@ -2,6 +2,7 @@
 use crate::Campaign;
 use crate::DAYS;
 use crate::FREE;
+use crate::NO_PERIODS;
 use crate::SLOTS;
 use crate::UNSEEN;
 ghost use mathlib.Core.Path.{_≡_};
@@ -14,12 +15,14 @@ pub fn blank(order: u32, taps: u32, capacity: u32) -> Campaign
 {
     let days = [UNSEEN; DAYS];
     let slots = [FREE; SLOTS];
+    let periods = [NO_PERIODS; SLOTS];
     Campaign {
         order,
         taps,
         capacity,
         days,
         slots,
+        periods,
     }
 }
 
@@ -34,14 +37,15 @@ pub fn mark(c: Campaign, d: u32, q: u8) -> Campaign
     r
 }
 
-// And slot s with the day t.
-pub fn file(c: Campaign, d: u32, q: u8, s: usize, t: u16) -> Campaign
+// And slot s with the day t, of m periods.
+pub fn file(c: Campaign, d: u32, q: u8, s: usize, t: u16, m: u8) -> Campaign
     requires { ⌜ (1 ≤ d) × (d ≤ 366) × (s < 64) ⌝ }
-    ensures { λ r. ⌜ r ≡ filed c d q s t ⌝ }
+    ensures { λ r. ⌜ r ≡ filed c d q s t m ⌝ }
 {
     let mut r = c;
     let at = d as usize - 1;
     r.days[at] = q;
     r.slots[s] = t;
+    r.periods[s] = m;
     r
 }

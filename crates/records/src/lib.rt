@@ -26,14 +26,17 @@ pub const DEAD: u8 = 3;
 
 pub const WITHDRAWN: u8 = 4;
 
-// What a slot holds in a day's place where it is free.
+// What a slot holds in a day's place where it is free, and how many periods it then has.
 pub const FREE: u16 = 0;
 
-// `capacity` is how many slots it has; `days` holds each day's state, and `slots` each slot's day.
+pub const NO_PERIODS: u8 = 0;
+
+// `capacity` is how many slots it has; `days` holds each day's state, `slots` each slot's day, and `periods` how many periods that day's night had.
 pub struct Campaign {
     pub order: u32,
     pub taps: u32,
     pub capacity: u32,
     pub days: [u8; DAYS],
     pub slots: [u16; SLOTS],
+    pub periods: [u8; SLOTS],
 }

@@ -1,23 +1,15 @@
 // One slot of the store filled or emptied, and the sums with it.
 use crate::stored::add_row;
+use nights::summing::sum_periods;
 use samples::clearing::clear_samples;
+use samples::range::least_of;
+use samples::range::most_of;
 ghost use mathlib.Core.Path.{_≡_};
 ghost use Prim.Native.Nat.{ℕ, _+_, _*_, _^_, _≤_, _<_};
 ghost use lib.IntN.{pos, natAbs, _+ℤ_, _-ℤ_};
 ghost use lib.ListN.{length};
 ghost use Rattle.sums.specs.Lists.{at, table, put, putAt};
-
-// A recording in the place of the first samples.
-fn copy_in(y: &[i32], row: &mut [i32])
-    requires { ⌜ length (now y) ≤ length (now row) ⌝ }
-    ensures { λ _. ⌜ now (row .exit) ≡ put (table (length (now (y .entry))) (at (now (y .entry)))) (now (row .entry)) ⌝ }
-{
-    let mut j = 0;
-    while j < y.len() {
-        row[j] = y[j];
-        j += 1;
-    }
-}
+ghost use Rattle.nights.specs.Nights.{term};
 
 // A row's samples leave the sums.
 fn take_out(row: &[i32], sums: &mut [i64])
@@ -31,17 +23,18 @@ fn take_out(row: &[i32], sums: &mut [i64])
     }
 }
 
-// A recording goes to slot s, and is added to the sums.
-pub fn fill_slot(s: usize, y: &[i32], store: &mut [i32], sums: &mut [i64])
-    requires { ⌜ (s < 64) × (length (now y) ≤ 65535) × (s * length (now y) + length (now y) ≤ length (now store)) ⌝ }
-    requires { ⌜ (length (now y) ≤ length (now sums)) × ((j : ℕ) → j < length (now y) → natAbs (at (now sums) j) ≤ 2 ^ 40) ⌝ }
-    ensures { λ _. ⌜ (now (store .exit) ≡ putAt (s * length (now (y .entry))) (now (y .entry)) (now (store .entry)))
-        × (now (sums .exit) ≡ put (table (length (now (y .entry))) (λ j. at (now (sums .entry)) j +ℤ at (now (y .entry)) j)) (now (sums .entry))) ⌝ }
+// The sum of a night's m periods goes to slot s, and is added to the sums.
+pub fn fill_slot(s: usize, period: usize, m: u8, z: &[i32], store: &mut [i32], sums: &mut [i64])
+    requires { ⌜ (s < 64) × (period ≤ 65535) × (s * period + period ≤ length (now store)) ⌝ }
+    requires { ⌜ (1 ≤ m) × (m ≤ 16) × (length (now z) ≡ m * period) × ((j : ℕ) → j < length (now z) → natAbs (at (now z) j) ≤ 8388608) ⌝ }
+    requires { ⌜ (period ≤ length (now sums)) × ((j : ℕ) → j < period → natAbs (at (now sums) j) ≤ 2 ^ 40) ⌝ }
+    ensures { λ _. ⌜ (now (store .exit) ≡ putAt (s * period) (term period m (now (z .entry))) (now (store .entry)))
+        × (now (sums .exit) ≡ put (table period (λ j. at (now (sums .entry)) j +ℤ at (term period m (now (z .entry))) j)) (now (sums .entry))) ⌝ }
 {
-    let from = s * y.len();
-    let to = from + y.len();
-    copy_in(y, &mut store[from..to]);
-    add_row(y, sums);
+    let from = s * period;
+    let to = from + period;
+    sum_periods(z, m as usize, &mut store[from..to]);
+    add_row(&store[from..to], least_of(m), most_of(m), sums);
 }
 
 // The samples of slot s leave the sums, and it holds zeros.

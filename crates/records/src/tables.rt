@@ -1,16 +1,19 @@
 // The days' states and the slots' days, as the record has them.
 use crate::DAYS;
 use crate::FREE;
+use crate::NO_PERIODS;
 use crate::SLOTS;
 use crate::STANDING;
 use crate::WITHDRAWN;
+use nights::MOST_PERIODS;
 ghost use mathlib.Core.Path.{_≡_};
 ghost use mathlib.Core.Bool.{cond, not, _&&_, _||_};
 ghost use Prim.Native.Nat.{_+_, _-_, _≤_};
 ghost use lib.Dec.{eqb, ltb, leb};
 ghost use lib.ListN.{length, getD};
+ghost use Rattle.sums.specs.Sum.{total};
 ghost use Rattle.sums.specs.Lists.{every, many, seek};
-ghost use Rattle.records.specs.Record.{stands, slotsHold, statesHold, pastFree, slotsStand, oneSlot};
+ghost use Rattle.records.specs.Record.{stands, slotsHold, statesHold, pastFree, slotsStand, oneSlot, periodsHold};
 
 // Whether a number is not 1 to the most.
 pub fn outside(n: u32, most: u32) -> bool
@@ -168,13 +171,56 @@ pub fn days_in(days: &[u8], q: u8) -> u32
     n
 }
 
-// Whether the slots and the days' states hold together.
+// Whether a slot with this day is free and has no periods, or has 1 to 16.
+fn counted(day: u16, m: u8) -> bool
+    ensures { λ r. ⌜ r ≡ cond (eqb day 0) (eqb m 0) (leb 1 m && leb m 16) ⌝ }
+{
+    if day == FREE {
+        return m == NO_PERIODS;
+    }
+    1 <= m && m as u32 <= MOST_PERIODS
+}
+
+// Whether every used slot has 1 to 16 periods, and every other none.
+pub fn periods_hold(slots: &[u16], periods: &[u8]) -> bool
+    requires { ⌜ length (now slots) ≡ 64 ⌝ }
+    requires { ⌜ length (now periods) ≡ 64 ⌝ }
+    ensures { λ r. ⌜ r ≡ every 64 (λ s. cond (eqb (getD (now (slots .entry)) s 0) 0) (eqb (getD (now (periods .entry)) s 0) 0)
+        (leb 1 (getD (now (periods .entry)) s 0) && leb (getD (now (periods .entry)) s 0) 16)) ⌝ }
+{
+    let mut s = 0;
+    while s < SLOTS {
+        if !counted(slots[s], periods[s]) {
+            return false;
+        }
+        s += 1;
+    }
+    true
+}
+
+// How many periods the slots have.
+pub fn periods_in(periods: &[u8], capacity: usize) -> u32
+    requires { ⌜ length (now periods) ≡ 64 ⌝ }
+    requires { ⌜ capacity ≤ 64 ⌝ }
+    ensures { λ r. ⌜ r ≡ total capacity (λ s. getD (now (periods .entry)) s 0) ⌝ }
+{
+    let mut n = 0u32;
+    let mut s = 0;
+    while s < capacity {
+        n += periods[s] as u32;
+        s += 1;
+    }
+    n
+}
+
+// Whether the slots, their periods and the days' states hold together.
 pub fn filed_holds(c: crate::Campaign) -> bool
-    ensures { λ r. ⌜ r ≡ slotsHold c && statesHold c && pastFree c && slotsStand c && oneSlot c ⌝ }
+    ensures { λ r. ⌜ r ≡ slotsHold c && statesHold c && pastFree c && slotsStand c && oneSlot c && periodsHold c ⌝ }
 {
     let capacity = c.capacity as usize;
     let days = c.days;
     let slots = c.slots;
+    let periods = c.periods;
     if capacity < 1 {
         return false;
     }
@@ -190,5 +236,8 @@ pub fn filed_holds(c: crate::Campaign) -> bool
     if !slots_stand(&days, &slots, capacity) {
         return false;
     }
-    one_slot(&days, &slots, capacity)
+    if !one_slot(&days, &slots, capacity) {
+        return false;
+    }
+    periods_hold(&slots, &periods)
 }

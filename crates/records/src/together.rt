@@ -28,5 +28,6 @@ pub fn holds(c: Campaign, store: &[i32], sums: &[i64]) -> bool
         return false;
     }
     let slots = c.slots;
-    store_holds(&slots, capacity, period, store, sums)
+    let periods = c.periods;
+    store_holds(&slots, &periods, capacity, period, store, sums)
 }

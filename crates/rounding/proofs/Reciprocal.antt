@@ -51,28 +51,28 @@ module _ (a d shift m : ℕ) (s : Split d shift m) (h : nearest a d ≤ 2 ^ 23) 
   unfolding nearest
   quotient = div-div-eq-div-mul (2 * a + d) (2 ^ shift) (s .few) ∙ ap (λ z. (2 * a + d) / z) (s .whole)
 
-  shifted-small : shifted < 64 * (2 ^ 23 + 1)
+  shifted-small : shifted < 362 * (2 ^ 23 + 1)
   shifted-small =
       let b : shifted / s .few + 1 ≤ 2 ^ 23 + 1 = omega (arith, quotient) in
       omega (arith, lt-mul-div-succ shifted (s .some), mul-le-mul (s .most) b)
 
-  short : shifted * s .few < 2 ^ 36
+  short : shifted * s .few < 2 ^ 40
   short = omega (arith, mul-le-mul (le-of-lt shifted-small) (s .most))
 
   -- nothing overflows on the way
-  pub sum-fits : 2 * a + d < 2 ^ 48
+  pub sum-fits : 2 * a + d < 2 ^ 59
   sum-fits =
-      let b : shifted + 1 ≤ 64 * (2 ^ 23 + 1) = omega (arith, shifted-small) in
-      let e : 2 ^ shift ≤ 2 ^ 17 = pow-mono {i = shift} {j = 17} (s .low) in
+      let b : shifted + 1 ≤ 362 * (2 ^ 23 + 1) = omega (arith, shifted-small) in
+      let e : 2 ^ shift ≤ 2 ^ 27 = pow-mono {i = shift} {j = 27} (s .low) in
       omega (arith, lt-mul-div-succ (2 * a + d) {b = 2 ^ shift} (pow-pos shift), mul-le-mul e b)
 
   pub product-fits : shifted * m < 2 ^ 64
   product-fits =
       let b : shifted / s .few + 1 ≤ 2 ^ 23 + 1 = omega (arith, quotient) in
-      rw (s .times) (omega (arith, below (2 ^ 36) shifted (s .few) (s .some) short, mul-le-mul-right (2 ^ 36) b))
+      rw (s .times) (omega (arith, below (2 ^ 40) shifted (s .few) (s .some) short, mul-le-mul-right (2 ^ 40) b))
 
-  pub near-by : shifted * m / 2 ^ 36 ≡ nearest a d
-  near-by = rw (s .times) (reciprocal (2 ^ 36) shifted (s .few) (s .some) short ∙ quotient)
+  pub near-by : shifted * m / 2 ^ 40 ≡ nearest a d
+  near-by = rw (s .times) (reciprocal (2 ^ 40) shifted (s .few) (s .some) short ∙ quotient)
 
 -- ---- a divisor split by how often 2 goes into it
 
@@ -84,7 +84,7 @@ module _ (d rest times : ℕ) (e : rest * 2 ^ times ≡ d) (p : 0 < d) where
       positive zero q = absurd (omega (arith, zero-mul (2 ^ times)))
       positive (suc n) q = omega arith
 
-  few-times : rest ≤ 64 → times ≤ 16 → Split d (times + 1) (2 ^ 36 / rest + 1)
+  few-times : rest ≤ 362 → times ≤ 26 → Split d (times + 1) (2 ^ 40 / rest + 1)
   few-times most low =
       record {
         few = rest;
@@ -95,8 +95,8 @@ module _ (d rest times : ℕ) (e : rest * 2 ^ times ≡ d) (p : 0 < d) where
         times = refl;
       }
 
-  pub split : times ≤ 16 → (reciprocalOf rest ≡ 0 → ⊥) → Split d (times + 1) (reciprocalOf rest)
-  split low some = elim (decLt rest 65) [
-    | yes h ↦ rw (le-leb rest 64 (omega arith)) (few-times (omega arith) low)
-    | no h ↦ absurd (some (rw (lt-leb rest 64 (omega arith)) refl))
+  pub split : times ≤ 26 → (reciprocalOf rest ≡ 0 → ⊥) → Split d (times + 1) (reciprocalOf rest)
+  split low some = elim (decLt rest 363) [
+    | yes h ↦ rw (le-leb rest 362 (omega arith)) (few-times (omega arith) low)
+    | no h ↦ absurd (some (rw (lt-leb rest 362 (omega arith)) refl))
   ]

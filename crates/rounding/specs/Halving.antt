@@ -6,18 +6,18 @@ use Prim.Native.Nat.{ℕ, _+_, _*_, _/_, _^_, _≤_, _<_}
 use lib.Dec.{leb}
 use lib.IntN.{ℤ, pos, negsuc, negℤ}
 
--- 2·d is 2^shift times a few, and m is what a quotient by so many is a product by, less 36 bits
+-- 2·d is 2^shift times a few, and m is what a quotient by so many is a product by, less 40 bits
 pub record Split (d shift m : ℕ) : Type 0 where
   pub few : ℕ
   pub some : 0 < few
-  pub most : few ≤ 64
-  pub low : shift ≤ 17
+  pub most : few ≤ 362
+  pub low : shift ≤ 27
   pub whole : 2 ^ shift * few ≡ 2 * d
-  pub times : m ≡ 2 ^ 36 / few + 1
+  pub times : m ≡ 2 ^ 40 / few + 1
 
--- 2^36 over this many, and one more; 0 where they are too many
+-- 2^40 over this many, and one more; 0 where they are too many
 abbrev pub reciprocal : ℕ → ℕ
-reciprocal rest = cond (leb rest 64) (2 ^ 36 / rest + 1) 0
+reciprocal rest = cond (leb rest 362) (2 ^ 40 / rest + 1) 0
 
 -- n with the sign of z
 abbrev pub withSign : ℤ → ℕ → ℤ

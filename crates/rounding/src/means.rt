@@ -12,14 +12,14 @@ ghost use Rattle.rounding.specs.Rounding.{nearest, rounded};
 ghost use Rattle.rounding.specs.Halving.{Split, reciprocal as reciprocalOf, withSign};
 
 // How often a divisor is halved at most, and the most that may be left of it for a reciprocal to be exact enough.
-const MOST_HALVINGS: u32 = 16;
+const MOST_HALVINGS: u32 = 26;
 
-const MOST_LEFT: u64 = 64;
+const MOST_LEFT: u64 = 362;
 
-// A reciprocal is a whole number over 2^36.
-const PLACES: u64 = 36;
+// A reciprocal is a whole number over 2^40.
+const PLACES: u64 = 40;
 
-const UNIT: u64 = 68719476736;
+const UNIT: u64 = 1099511627776;
 
 // a / d to the nearest, a half going up.
 fn near(a: u64, d: u64) -> u64
@@ -33,7 +33,7 @@ fn near(a: u64, d: u64) -> u64
 
 // How often 2 goes into a number, up to a limit, and what is left of it.
 fn halve(d: u64) -> Halved
-    ensures { λ h. ⌜ (h .rest * 2 ^ h .times ≡ d) × (h .times ≤ 16) ⌝ }
+    ensures { λ h. ⌜ (h .rest * 2 ^ h .times ≡ d) × (h .times ≤ 26) ⌝ }
 {
     let mut rest = d;
     let mut times = 0u32;
@@ -97,7 +97,7 @@ fn write_each(r: &[i64], out: &mut [i32], period: usize, divisor: u64, shift: u3
     }
 }
 
-// What a quotient by this many is a product by, over 2^36: 0 where they are more than 64.
+// What a quotient by this many is a product by, over 2^40: 0 where they are more than 362.
 fn reciprocal(rest: u64) -> u64
     requires { ⌜ 0 < rest ⌝ }
     ensures { λ m. ⌜ m ≡ reciprocalOf rest ⌝ }

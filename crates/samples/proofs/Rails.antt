@@ -1,32 +1,23 @@
--- The rails: what lies between them, and how large it is. Assumes nothing.
-use mathlib.Core.Path.{_≡_, refl, sym, ap, subst, _∙_}
-use mathlib.Core.Logic.{_↔_, _⊎_}
-use mathlib.Core.Bool.{true, false}
-use Prim.Native.Nat.{_≤_}
+-- The rails: what lies between them, and how large it and a sum of it is. Assumes nothing.
+use mathlib.Core.Path.{_≡_, refl, sym, ap, ap₂, subst, _∙_}
+use mathlib.Core.Logic.{_↔_, _⊎_, inl, inr}
+use mathlib.Core.Bool.{true, false, _||_}
+use Prim.Native.Nat.{ℕ, suc, _+_, _*_, _≤_}
 use native.Mathlib.Omega.{arith}
-use borrow.Author.Tests.{lt-ltb, ltb-true, ltb-false}
-use lib.Dec.{T, ltb}
-use lib.IntN.{ℤ, pos, negsuc, natAbs}
-use lib.Signed.{ltZ}
+use borrow.Author.Tests.{le-leb, leb-true, lt-ltb, ltb-false}
+use lib.Dec.{T, ltb, leb}
+use lib.IntN.{ℤ, pos, negsuc, negℤ, natAbs, _+ℤ_}
+use lib.Signed.{ltZ, leZ}
 use Rattle.sums.specs.Equal.{eqZ}
+use Rattle.sums.proofs.Diff.{diff, up, down, parts, pos-diff, diff-add, diff-neg, natAbs-diff, leZ-diff, lt-true}
 use Rattle.sums.proofs.Equal.{eqZ-same, eqZ-is}
-use Rattle.sums.proofs.Everywhere.{and-true, both-true}
+use Rattle.sums.proofs.Everywhere.{and-true, both-true, never-true}
 use Rattle.sums.proofs.First.{or-false, or-exactly}
-use Rattle.samples.specs.Samples.{lowest, highest, sampleOut, rail, inside}
+use Rattle.samples.specs.Samples.{lowest, highest, sampleOut, rail, inside, leastOf, mostOf, within}
 
 -- the rails are not inside them, their neighbours are
 pub rails-outside : (inside (pos 8388607) ≡ false) × (inside (pos 8388606) ≡ true) × (inside (negsuc 8388607) ≡ false) × (inside (negsuc 8388606) ≡ true)
 rails-outside = (refl, refl, refl, refl)
-
--- a number inside the rails
-pub inside-size : (z : ℤ) → inside z ≡ true → natAbs z ≤ 8388607
-inside-size z h =
-    let two = and-true (ltZ (negsuc 8388607) z) (ltZ z (pos 8388607)) h in
-    go z (two .0) (two .1)
-  where
-    go : (z : ℤ) → ltZ (negsuc 8388607) z ≡ true → ltZ z (pos 8388607) ≡ true → natAbs z ≤ 8388607
-    go (pos n) a b = omega (arith, ltb-true n 8388607 b)
-    go (negsuc n) a b = omega (arith, ltb-true n 8388607 a)
 
 -- a sample is at a rail where it is one of the two
 pub rail-exactly : (z : ℤ) → (rail z ≡ true) ↔ ((z ≡ lowest) ⊎ (z ≡ highest))
@@ -48,3 +39,60 @@ between z a b = go z (or-false (ltZ z lowest) (ltZ highest z) a) (or-false (eqZ 
         let h = ltb-false 8388607 n (a .0) in
         let m : n ≡ 8388607 → ⊥ = λ e. off (negsuc n) lowest (b .0) (ap negsuc e) in
         both-true {a = ltb n 8388607} (lt-ltb n 8388607 (omega arith)) refl
+
+-- what lies beyond neither neighbour of the rails is at no rail
+pub off-rails : (z : ℤ) → ltZ z (leastOf 1) || ltZ (mostOf 1) z ≡ false → rail z ≡ false
+off-rails z h = never-true (rail z) (λ e. at-one (rail-exactly z .0 e))
+  where
+    clash : ltZ z (leastOf 1) || ltZ (mostOf 1) z ≡ true → ⊥
+    clash e = subst T (sym e ∙ h) tt
+
+    at-one : (z ≡ lowest) ⊎ (z ≡ highest) → ⊥
+    at-one (inl e) = clash (ap (λ x. ltZ x (leastOf 1) || ltZ (mostOf 1) x) e)
+    at-one (inr e) = clash (ap (λ x. ltZ x (leastOf 1) || ltZ (mostOf 1) x) e)
+
+-- ---- sums of samples
+
+module _ (k u d : ℕ) where
+  at-least : leZ (negℤ (pos k)) (diff u d) ≡ leb (0 + d) (u + k)
+  at-least = ap (λ z. leZ z (diff u d)) (ap negℤ (pos-diff k) ∙ diff-neg k 0) ∙ leZ-diff 0 k u d
+
+  at-most : leZ (diff u d) (pos k) ≡ leb (u + 0) (k + d)
+  at-most = ap (leZ (diff u d)) (pos-diff k) ∙ leZ-diff u d k 0
+
+-- a sum of m samples between the rails, as an order of its parts
+within-parts : (m u d : ℕ) → within m (diff u d) ≡ true → (d ≤ u + 8388607 * m) × (u ≤ 8388606 * m + d)
+within-parts m u d h =
+    let two = and-true (leZ (leastOf m) (diff u d)) (leZ (diff u d) (mostOf m)) h in (
+      omega (arith, leb-true (0 + d) (u + 8388607 * m) (sym (at-least (8388607 * m) u d) ∙ two .0)),
+      omega (arith, leb-true (u + 0) (8388606 * m + d) (sym (at-most (8388606 * m) u d) ∙ two .1)),
+    )
+
+parts-within : (m u d : ℕ) → d ≤ u + 8388607 * m → u ≤ 8388606 * m + d → within m (diff u d) ≡ true
+parts-within m u d a b =
+    both-true
+    (at-least (8388607 * m) u d ∙ le-leb (0 + d) (u + 8388607 * m) (omega arith))
+    (at-most (8388606 * m) u d ∙ le-leb (u + 0) (8388606 * m + d) (omega arith))
+
+-- it is small
+pub within-size : (m : ℕ) (z : ℤ) → within m z ≡ true → natAbs z ≤ 8388607 * m
+within-size m z h = omega (arith, ap natAbs (parts z) ∙ natAbs-diff (up z) (down z), within-parts m (up z) (down z) (subst (λ x. within m x ≡ true) (parts z) h))
+
+-- of no samples it is 0, and one sample more adds what it may
+pub within-none : within 0 (pos 0) ≡ true
+within-none = refl
+
+pub within-more : (m : ℕ) (a z : ℤ) → within m a ≡ true → inside z ≡ true → within (suc m) (a +ℤ z) ≡ true
+unfolding up down
+within-more m a z h k =
+    let one = and-true (ltZ lowest z) (ltZ z highest) k in
+    let w = within-parts m (up a) (down a) (subst (λ x. within m x ≡ true) (parts a) h) in
+    subst (λ x. within (suc m) x ≡ true) (sym (ap₂ _+ℤ_ (parts a) (parts z) ∙ diff-add (up a) (down a) (up z) (down z)))
+    (parts-within (suc m) (up a + up z) (down a + down z)
+    (omega (arith, w, lt-true lowest z (one .0)))
+    (omega (arith, w, lt-true z highest (one .1))))
+
+-- the bounds of one period are the rails' neighbours, and those of 16 are 16 times as far
+pub bounds : (within 1 (pos 8388606) ≡ true) × (within 1 (pos 8388607) ≡ false) × (within 1 (negsuc 8388606) ≡ true) × (within 1 (negsuc 8388607) ≡ false)
+    × (within 16 (pos 134217696) ≡ true) × (within 16 (pos 134217697) ≡ false) × (within 16 (negsuc 134217711) ≡ true) × (within 16 (negsuc 134217712) ≡ false)
+bounds = (refl, refl, refl, refl, refl, refl, refl, refl)

@@ -1,12 +1,12 @@
--- Document 01, "What it covers", "The campaign", "Refusal numbers" and "Room", and document 02, request 7: the sample range and its rails, a recording's
+-- Document 01, "What it covers", "The campaign", "Refusal numbers" and "Room", and document 02, requests 1 and 7: the sample range and its rails, a recording's
 -- length, and buffers that are short or cleared. Assumes nothing.
 use mathlib.Core.List.{List}
 use mathlib.Core.Bool.{Bool, not, _&&_, _||_}
-use Prim.Native.Nat.{ℕ, _+_}
+use Prim.Native.Nat.{ℕ, _+_, _*_}
 use lib.Dec.{eqb, ltb}
-use lib.IntN.{ℤ, pos, negsuc}
+use lib.IntN.{ℤ, pos, negsuc, negℤ}
 use lib.ListN.{length}
-use lib.Signed.{ltZ}
+use lib.Signed.{ltZ, leZ}
 use Rattle.sums.specs.Equal.{eqZ}
 use Rattle.sums.specs.Lists.{table, put, some}
 
@@ -32,6 +32,16 @@ rail z = eqZ z lowest || eqZ z highest
 -- strictly between the rails
 abbrev pub inside : ℤ → Bool
 inside z = ltZ lowest z && ltZ z highest
+
+-- what m samples strictly between the rails may add up to, -8,388,607·m to 8,388,606·m
+abbrev pub leastOf : ℕ → ℤ
+leastOf m = negℤ (pos (8388607 * m))
+
+abbrev pub mostOf : ℕ → ℤ
+mostOf m = pos (8388606 * m)
+
+abbrev pub within : ℕ → ℤ → Bool
+within m z = leZ (leastOf m) z && leZ z (mostOf m)
 
 -- ---- lengths
 

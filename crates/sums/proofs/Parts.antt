@@ -30,12 +30,14 @@ module _ {A : Type 0} (k n : ℕ) (l : List A) (fits : k + n ≤ length l) where
   pub part-length : length (midOf k (k + n - k) l) ≡ n
   part-length = rw count (length-take-le n (drop k l) (omega (arith, length-drop k l)))
 
-  -- as many numbers as the part has, put there
-  pub part-put : (vs last : List A) → length vs ≡ n → last ≡ put vs (midOf k (k + n - k) l) → putMid k (k + n - k) l last ≡ putAt k vs l
+  -- as many numbers as the part has in its place
+  pub part-written : (vs last : List A) → length vs ≡ n → last ≡ vs → putMid k (k + n - k) l last ≡ putAt k vs l
   unfolding putAt put
-  part-put vs last e w =
-      rw (w ∙ put-whole vs (midOf k (k + n - k) l) (part-length ∙ sym e), count)
-      (ap (λ m. take k l ++ (vs ++ drop m (drop k l))) (sym e))
+  part-written vs last e w = rw (w, count) (ap (λ m. take k l ++ (vs ++ drop m (drop k l))) (sym e))
+
+  -- the same, put over what the part had
+  pub part-put : (vs last : List A) → length vs ≡ n → last ≡ put vs (midOf k (k + n - k) l) → putMid k (k + n - k) l last ≡ putAt k vs l
+  part-put vs last e w = part-written vs last e (w ∙ put-whole vs (midOf k (k + n - k) l) (part-length ∙ sym e))
 
 pub part-at : (k n : ℕ) (l : List ℤ) (j : ℕ) → j < n → at (midOf k (k + n - k) l) j ≡ at l (k + j)
 part-at k n l j h = getD-take (k + n - k) (drop k l) j (pos 0) (omega arith) ∙ getD-drop k l j (pos 0)

@@ -1,4 +1,4 @@
--- Counts total 366. The mean fits the sample range, and |r| stays below 2^53. Assumes nothing.
+-- Counts total 366. The mean fits the sample range, and |r| stays below 2^49. Assumes nothing.
 use mathlib.Core.Path.{_≡_, refl}
 use mathlib.Core.Bool.{false, cond}
 use mathlib.Core.List.{List}
@@ -16,11 +16,10 @@ use Rattle.samples.specs.Samples.{sampleOut}
 use Rattle.samples.proofs.Sizes.{size-inside}
 use Rattle.rounding.proofs.Nearest.{rounded-bound}
 use Rattle.response.proofs.Register.{response-bound}
-use Rattle.records.specs.Record.{unseen, standing, overloaded, dead, withdrawn, state, daysIn}
+use Rattle.records.specs.Record.{unseen, standing, overloaded, dead, withdrawn, state, daysIn, periodsStanding}
 use Rattle.records.specs.declared.Campaign.{Campaign}
 use Rattle.records.proofs.Holding.{Filed, Together}
-use Rattle.records.proofs.Tallying.{standing-most}
-use Rattle.records.proofs.Totals.{sum-bound}
+use Rattle.records.proofs.Totals.{periods-least, periods-most, sum-bound}
 use Rattle.trend.specs.Calls.{worked, divisor, meanAt, extremesOf}
 
 -- ---- counts
@@ -47,16 +46,15 @@ pub counts-total : (c : Campaign) → Filed c
     → daysIn c unseen + daysIn c standing + daysIn c overloaded + daysIn c dead + daysIn c withdrawn ≡ 366
 counts-total c f = five 366 (λ i. state c (i + 1)) (f .states)
 
--- ---- the divisor, (P+1)·n
+-- ---- the divisor, (P+1)·n, n periods standing
 
-pub divisor-some : (c : Campaign) → (daysIn c standing ≡ 0 → ⊥) → 0 < divisor c
-divisor-some c n = mul-pos (omega arith) (omega arith)
+pub divisor-some : (c : Campaign) → Filed c → (daysIn c standing ≡ 0 → ⊥) → 0 < divisor c
+divisor-some c f n = mul-pos (omega arith) (omega (arith, periods-least c f))
 
-divisor-most : (c : Campaign) → Filed c → divisor c ≤ 65536 * 64
+divisor-most : (c : Campaign) → Filed c → divisor c ≤ 65536 * 1024
 divisor-most c f =
     let period : P (c .order) + 1 ≤ 65536 = omega (arith, small (f .accepted .shaped .most)) in
-    let days : daysIn c standing ≤ 64 = omega (arith, standing-most c f, f .most) in
-    mul-le-mul period days
+    mul-le-mul period (periods-most c f)
 
 pub divisor-small : (c : Campaign) → Filed c → divisor c < 2 ^ 53
 divisor-small c f = omega (arith, divisor-most c f)
@@ -68,17 +66,20 @@ module _ (c : Campaign) (store sums : List ℤ) (h : Together c store sums) wher
   worked-bound k =
       omega (
         arith,
-        response-bound (c .order) (c .taps) (generator (h .filed .accepted)) (at sums) (daysIn c standing * 8388607) (sum-bound c store sums h) k,
-        mul-assoc (P (c .order) + 1) (daysIn c standing) 8388607,
+        response-bound (c .order) (c .taps) (generator (h .filed .accepted)) (at sums) (periodsStanding c * 8388607) (sum-bound c store sums h) k,
+        mul-assoc (P (c .order) + 1) (periodsStanding c) 8388607,
       )
 
-  pub worked-small : (k : ℕ) → natAbs (worked c sums k) < 2 ^ 53
+  pub worked-small : (k : ℕ) → natAbs (worked c sums k) < 2 ^ 49
   worked-small k = omega (arith, worked-bound k, divisor-most c (h .filed))
 
   pub extremes-small : let e = extremesOf (P (c .order)) (worked c sums) in (natAbs (e .highest) < 2 ^ 53) × (natAbs (e .lowest) < 2 ^ 53) × (natAbs (e .peak) < 2 ^ 53)
-  extremes-small = (worked-small _, worked-small _, worked-small _)
+  extremes-small = (below _ (worked-small _), below _ (worked-small _), below _ (worked-small _))
+    where
+      below : (n : ℕ) → n < 2 ^ 49 → n < 2 ^ 53
+      below n l = omega arith
 
   pub mean-fits : (daysIn c standing ≡ 0 → ⊥) → (k : ℕ) → sampleOut (meanAt c sums k) ≡ false
   mean-fits n k =
       size-inside (meanAt c sums k)
-      (rounded-bound (worked c sums k) (divisor c) 8388607 (divisor-some c n) (omega (arith, worked-bound k)))
+      (rounded-bound (worked c sums k) (divisor c) 8388607 (divisor-some c (h .filed) n) (omega (arith, worked-bound k)))

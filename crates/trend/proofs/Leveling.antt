@@ -1,4 +1,4 @@
--- No |r| is larger than at the peak, and a level is exact where the days standing are a power of two in number. Assumes nothing.
+-- No |r| is larger than at the peak, and a level is exact where the periods standing are a power of two in number. Assumes nothing.
 use mathlib.Core.Path.{_≡_, refl, sym, ap, _∙_}
 use mathlib.Core.Bool.{Bool, true, false, cond}
 use mathlib.Core.List.{List}
@@ -18,7 +18,7 @@ use lib.Ieee.Back.{round-whole}
 use Rattle.sums.specs.Largest.{largestAt}
 use Rattle.sums.proofs.Largest.{largest-is}
 use Rattle.register.specs.Register.{P}
-use Rattle.records.specs.Record.{standing, daysIn}
+use Rattle.records.specs.Record.{periodsStanding}
 use Rattle.records.specs.declared.Campaign.{Campaign}
 use Rattle.records.proofs.Holding.{Together}
 use Rattle.trend.specs.Calls.{worked, divisor, level}
@@ -108,7 +108,7 @@ level-exact r k h l =
 
 -- ---- the levels of a campaign
 
-module _ (c : Campaign) (store sums : List ℤ) (h : Together c store sums) (m : ℕ) (e : daysIn c standing ≡ 2 ^ m) where
+module _ (c : Campaign) (store sums : List ℤ) (h : Together c store sums) (m : ℕ) (e : periodsStanding c ≡ 2 ^ m) where
   -- the divisor is a power of two
   divisor-power : divisor c ≡ 2 ^ (c .order + m)
   divisor-power = rw (e, pow-add 2 (c .order) m) (ap (λ n. n * 2 ^ m) whole)
@@ -124,4 +124,4 @@ module _ (c : Campaign) (store sums : List ℤ) (h : Together c store sums) (m :
   ]
 
   pub levels-exact : (k : ℕ) → HasValue (level (worked c sums k) (divisor c)) (isNegative (worked c sums k)) (natAbs (worked c sums k)) (divisor c)
-  levels-exact k = rw divisor-power (level-exact (worked c sums k) (c .order + m) (worked-small c store sums h k) few)
+  levels-exact k = rw divisor-power (level-exact (worked c sums k) (c .order + m) (omega (arith, worked-small c store sums h k)) few)

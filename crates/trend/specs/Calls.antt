@@ -1,5 +1,5 @@
 -- What a campaign says: counts, response and summary, each by one function from all that is handed in to all that is handed back: document 01,
--- "The campaign", "Refusal numbers", "Order of checks" and "Room", and document 02, request 7. Assumes nothing.
+-- "The campaign", "Refusal numbers", "Order of checks" and "Room", and document 02, requests 1 and 7. Assumes nothing.
 use mathlib.Core.List.{List, [], _∷_}
 use mathlib.Core.Bool.{Bool, cond, _||_}
 use Prim.Native.Nat.{ℕ, _+_, _*_}
@@ -14,7 +14,7 @@ use Rattle.register.specs.Register.{P, wave}
 use Rattle.response.specs.Response.{response}
 use Rattle.rounding.specs.Rounding.{rounded}
 use Rattle.samples.specs.Samples.{workShort, roomShort, clearedWide, clearedTags}
-use Rattle.records.specs.Record.{unseen, standing, overloaded, dead, withdrawn, daysIn, apart}
+use Rattle.records.specs.Record.{unseen, standing, overloaded, dead, withdrawn, daysIn, periodsStanding, apart}
 use Rattle.records.specs.declared.Campaign.{Campaign}
 use Rattle.trend.specs.declared.Tally.{Tally}
 use Rattle.trend.specs.declared.Counts.{Counts}
@@ -52,12 +52,12 @@ responseChecks c store sums r mean room tags =
     ∷ (14, eqb (daysIn c standing) 0)
     ∷ []
 
--- r worked from the sums; r over (P+1)·n, n days standing
+-- r worked from the sums; r over (P+1)·n, n periods standing
 abbrev pub worked : Campaign → List ℤ → ℕ → ℤ
 worked c sums = response (P (c .order)) (wave (c .order) (c .taps)) (at sums)
 
 abbrev pub divisor : Campaign → ℕ
-divisor c = (P (c .order) + 1) * daysIn c standing
+divisor c = (P (c .order) + 1) * periodsStanding c
 
 abbrev pub meanAt : Campaign → List ℤ → ℕ → ℤ
 meanAt c sums k = rounded (worked c sums k) (divisor c)

@@ -1,4 +1,5 @@
 // The answer of response.
+use crate::dividing::divisor_of;
 use crate::rooms::answer_short;
 use records::Campaign;
 use records::STANDING;
@@ -43,7 +44,7 @@ fn response_refusal(
     0
 }
 
-// The response worked from the sums, and the mean over the standing days, refusing 15, 6, 14.
+// The response worked from the sums, and the mean over the periods standing, refusing 15, 6, 14.
 pub fn response(
     c: Campaign,
     store: &[i32],
@@ -62,9 +63,8 @@ pub fn response(
     }
     let order = c.order;
     let taps = c.taps;
-    let days = c.days;
     let period = full_period(order) as usize;
-    let divisor = (period as u64 + 1) * days_in(&days, STANDING) as u64;
+    let divisor = divisor_of(c);
     turn_sums(order, taps, sums, r, room, tags);
     write_means(r, mean, period, divisor);
     0

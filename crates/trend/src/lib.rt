@@ -1,6 +1,7 @@
 // What a campaign says: counts, response, summary.
 pub mod answering;
 pub mod counting;
+mod dividing;
 mod measuring;
 mod rooms;
 pub mod summarising;
@@ -27,7 +28,7 @@ pub struct Extremes {
     pub peak: i64,
 }
 
-// Each over (P+1)·n.
+// Each over (P+1)·n, n periods standing.
 pub struct Levels {
     pub highest: f64,
     pub lowest: f64,

@@ -2,6 +2,7 @@
 use crate::Extremes;
 use crate::Levels;
 use crate::Summary;
+use crate::dividing::divisor_of;
 use crate::measuring::level_of;
 use crate::measuring::measure;
 use records::Campaign;
@@ -69,11 +70,10 @@ pub fn summary(
     let order = c.order;
     let taps = c.taps;
     let days = c.days;
-    let n = days_in(&days, STANDING);
-    if n == 0 {
+    if days_in(&days, STANDING) == 0 {
         return Summary::Nothing;
     }
-    let divisor = (full_period(order) as u64 + 1) * n as u64;
+    let divisor = divisor_of(c);
     let extremes = measure(order, taps, sums, room, tags);
     Summary::Measured(levels_of(extremes, divisor))
 }

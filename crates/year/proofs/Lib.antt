@@ -2,3 +2,4 @@
 mod Sizes
 mod Fronts
 mod Products
+mod Fitting

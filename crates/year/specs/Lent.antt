@@ -1,6 +1,6 @@
 -- docs/YEAR.md, "Memory" and "Two campaigns": how much the calls are lent, and what a plan has to keep to for that to be enough.
 -- Assumes nothing.
-use Prim.Native.Nat.{ℕ, _*_, _≤_, _<_}
+use Prim.Native.Nat.{ℕ, _+_, _*_, _≤_, _<_}
 use Rattle.year.specs.declared.Plan.{Plan}
 
 abbrev pub storePlaces : ℕ
@@ -13,7 +13,7 @@ abbrev pub tagPlaces : ℕ
 tagPlaces = 1100
 
 abbrev pub recording : ℕ
-recording = 512
+recording = 2600
 
 abbrev pub visits : ℕ
 visits = 732
@@ -30,7 +30,10 @@ pub record Within (values means wide tagged : ℕ) : Type 0 where
 
 pub record Runs (plan : Plan) : Type 0 where
   pub shortest : 2 ≤ plan .period
-  pub longest : plan .period < recording
+  pub longest : plan .period < places
+  pub some-periods : 1 ≤ plan .most
+  pub few-periods : plan .most ≤ 16
+  pub captures-fit : (1 + plan .most) * plan .period ≤ recording
   pub some-slots : 0 < plan .capacity
   pub store-holds : plan .capacity * plan .period ≤ storePlaces
   pub lag-within : plan .lag ≤ visits

@@ -15,6 +15,7 @@ use lines::print::bits;
 use lines::print::line_end;
 use lines::print::number;
 use lines::print::word;
+use nights::Night;
 use records::Campaign;
 use trend::Counts;
 use trend::Summary;
@@ -85,24 +86,37 @@ fn verdict_words(verdict: Verdict) {
     }
 }
 
-fn entry_words(entry: Entry) {
+fn night_words(night: Night, day: u32) {
+    match night {
+        Night::Period => {
+            word(b"enter");
+            number(day as u64);
+        }
+        Night::Capture(m) => {
+            word(b"capture");
+            number(day as u64);
+            number(m as u64);
+        }
+    }
+}
+
+fn entry_words(night: Night, entry: Entry) {
     let verdict = entry.verdict;
-    word(b"enter");
-    number(entry.day as u64);
+    night_words(night, entry.day);
     verdict_words(verdict);
     line_end();
 }
 
-// The first samples of the recording at hand, entered.
-pub fn enter_line(held: Held, store: &mut Store, d: u32, samples: usize) -> Held
+// The first samples of the recording at hand, entered as this night.
+pub fn enter_line(held: Held, store: &mut Store, d: u32, night: Night, samples: usize) -> Held
     requires { ⌜ samples ≤ recording ⌝ }
 {
     let mut sums = held.sums;
     let y = held.y;
     let c = held.campaign;
-    let done = enter(c, store, &mut sums, d, &y[..samples]);
+    let done = enter(c, store, &mut sums, d, night, &y[..samples]);
     let entry = done.entry;
-    entry_words(entry);
+    entry_words(night, entry);
     let after = done.campaign;
     with_record(held, after, sums)
 }

@@ -1,7 +1,7 @@
 // A year of nights through the proved calls, as docs/YEAR.md has it: a second program prints the same lines.
 mod calls;
 mod memory;
-mod nights;
+mod recordings;
 mod refusing;
 mod signals;
 mod visits;
@@ -16,7 +16,7 @@ pub const PLACES: usize = 600;
 
 pub const TAGS: usize = 1100;
 
-pub const RECORDING: usize = 512;
+pub const RECORDING: usize = 2600;
 
 // The rails, the least and the greatest sample.
 pub const LOWEST: i32 = -8388608;
@@ -37,13 +37,14 @@ pub struct Held {
     pub tags: [u16; TAGS],
 }
 
-// A campaign to drive: `lag` is how many visits after its own a day is withdrawn.
+// A campaign to drive: `lag` is how many visits after its own a day is withdrawn, `most` how many periods its captures have at the most.
 pub struct Plan {
     pub order: u32,
     pub taps: u32,
     pub capacity: u32,
     pub period: usize,
     pub lag: usize,
+    pub most: usize,
 }
 
 fn main() {
@@ -54,6 +55,7 @@ fn main() {
         capacity: 5,
         period: 7,
         lag: 6,
+        most: 16,
     };
     let large = Plan {
         order: 9,
@@ -61,6 +63,7 @@ fn main() {
         capacity: 48,
         period: 511,
         lag: 60,
+        most: 4,
     };
     campaign_lines(small, &mut store);
     campaign_lines(large, &mut store);

@@ -14,42 +14,64 @@ use crate::calls::response_line;
 use crate::calls::start_line;
 use crate::calls::summary_line;
 use crate::calls::withdraw_line;
-use crate::nights::recorded;
+use crate::recordings::recorded;
 use crate::signals::refused_signals;
+use nights::MOST_PERIODS;
+use nights::Night;
 use records::LAST_DAY;
 use records::MOST_SLOTS;
 use register::LEAST_ORDER;
 use register::MOST_ORDER;
 ghost use Prim.Native.Nat.{_≤_, _<_};
 ghost use lib.IntN.{natAbs};
-ghost use Rattle.year.specs.Lent.{recording, Runs};
+ghost use Rattle.year.specs.Lent.{places, Runs};
 
 // The visit at which all this happens, and whose recording is at hand.
 pub const REFUSED_VISIT: usize = 365;
 
 fn wrong_days(held: Held, store: &mut Store, period: usize) -> Held
-    requires { ⌜ period < recording ⌝ }
+    requires { ⌜ period < places ⌝ }
 {
-    let next = enter_line(held, store, 0, period);
-    enter_line(next, store, LAST_DAY + 1, period)
+    let next = enter_line(held, store, 0, Night::Period, period);
+    enter_line(next, store, LAST_DAY + 1, Night::Period, period)
 }
 
 fn wrong_lengths(held: Held, store: &mut Store, period: usize) -> Held
-    requires { ⌜ (0 < period) × (period < recording) ⌝ }
+    requires { ⌜ (0 < period) × (period < places) ⌝ }
 {
-    let next = enter_line(held, store, 1, period - 1);
-    enter_line(next, store, 1, period + 1)
+    let next = enter_line(held, store, 1, Night::Period, period - 1);
+    enter_line(next, store, 1, Night::Period, period + 1)
 }
 
 // Above the upper rail, and below the lower.
 fn wrong_samples(held: Held, store: &mut Store, period: usize) -> Held
-    requires { ⌜ period < recording ⌝ }
+    requires { ⌜ period < places ⌝ }
 {
     let mut next = held;
     next.y[0] = HIGHEST + 1;
-    next = enter_line(next, store, 1, period);
+    next = enter_line(next, store, 1, Night::Period, period);
     next.y[0] = LOWEST - 1;
-    enter_line(next, store, 1, period)
+    enter_line(next, store, 1, Night::Period, period)
+}
+
+// No periods, and more than the most.
+fn wrong_counts(held: Held, store: &mut Store, period: usize) -> Held
+    requires { ⌜ period < places ⌝ }
+{
+    let beyond = Night::Capture(MOST_PERIODS + 1);
+    let mut next = enter_line(held, store, 0, beyond, period);
+    next = enter_line(next, store, 1, Night::Capture(0), period);
+    enter_line(next, store, 1, beyond, period)
+}
+
+// A sample less and a sample more, and as many as there must be, of which the first lies below the lower rail.
+fn wrong_captures(held: Held, store: &mut Store, period: usize) -> Held
+    requires { ⌜ (0 < period) × (period < places) ⌝ }
+{
+    let one = Night::Capture(1);
+    let mut next = enter_line(held, store, 1, one, 2 * period - 1);
+    next = enter_line(next, store, 1, one, 2 * period + 1);
+    enter_line(next, store, 1, one, 2 * period)
 }
 
 fn wrong_entries(held: Held, store: &mut Store, plan: Plan) -> Held
@@ -58,7 +80,9 @@ fn wrong_entries(held: Held, store: &mut Store, plan: Plan) -> Held
     let period = plan.period;
     let mut next = wrong_days(held, store, period);
     next = wrong_lengths(next, store, period);
-    wrong_samples(next, store, period)
+    next = wrong_samples(next, store, period);
+    next = wrong_counts(next, store, period);
+    wrong_captures(next, store, period)
 }
 
 fn wrong_withdrawals(held: Held, store: &mut Store) -> Held {
@@ -68,7 +92,7 @@ fn wrong_withdrawals(held: Held, store: &mut Store) -> Held {
 
 // Each room one short.
 fn short_responses(held: Held, store: &Store, period: usize) -> Held
-    requires { ⌜ (0 < period) × (period < recording) ⌝ }
+    requires { ⌜ (0 < period) × (period < places) ⌝ }
 {
     let short = period - 1;
     let mut next = response_line(held, store, short, PLACES, PLACES, TAGS);
@@ -78,7 +102,7 @@ fn short_responses(held: Held, store: &Store, period: usize) -> Held
 }
 
 fn short_summaries(held: Held, store: &Store, period: usize) -> Held
-    requires { ⌜ (0 < period) × (period < recording) ⌝ }
+    requires { ⌜ (0 < period) × (period < places) ⌝ }
 {
     let next = summary_line(held, store, period, TAGS);
     summary_line(next, store, PLACES, period - 1)
@@ -86,7 +110,7 @@ fn short_summaries(held: Held, store: &Store, period: usize) -> Held
 
 // Just as much as they need, which is accepted.
 fn least_rooms(held: Held, store: &Store, period: usize) -> Held
-    requires { ⌜ period < recording ⌝ }
+    requires { ⌜ period < places ⌝ }
 {
     let next = response_line(held, store, period, period, period + 1, period);
     summary_line(next, store, period + 1, period)
@@ -128,9 +152,9 @@ fn wrong_sums(held: Held, store: &mut Store, plan: Plan) -> Held
     requires { ⌜ Runs plan ⌝ }
 {
     let period = plan.period;
-    let mut next = recorded(held, period, REFUSED_VISIT);
+    let mut next = recorded(held, plan, REFUSED_VISIT);
     next = shift_sum(next, 1);
-    next = enter_line(next, store, 1, period);
+    next = enter_line(next, store, 1, Night::Period, period);
     next = withdraw_line(next, store, 1);
     next = answers(next, store);
     shift_sum(next, -1)

@@ -10,8 +10,10 @@ use crate::calls::start_line;
 use crate::calls::withdraw_line;
 use crate::memory::fill_store;
 use crate::memory::filled;
-use crate::nights::day_of;
-use crate::nights::recorded;
+use crate::recordings::day_of;
+use crate::recordings::length_of;
+use crate::recordings::night_of;
+use crate::recordings::recorded;
 use crate::refusing::REFUSED_VISIT;
 use crate::refusing::be_refused;
 use records::filing::blank;
@@ -24,12 +26,13 @@ const VISITS: usize = 732;
 fn enter_night(held: Held, store: &mut Store, plan: Plan, i: usize) -> Held
     requires { ⌜ (i < visits) × Runs plan ⌝ }
 {
-    let period = plan.period;
     let d = day_of(i);
-    let mut next = recorded(held, period, i);
-    next = enter_line(next, store, d, period);
+    let night = night_of(i, plan.most);
+    let length = length_of(plan, i);
+    let mut next = recorded(held, plan, i);
+    next = enter_line(next, store, d, night, length);
     if i % 13 == 5 {
-        return enter_line(next, store, d, period);
+        return enter_line(next, store, d, night, length);
     }
     next
 }

@@ -22,7 +22,7 @@ module _ (c : Campaign) (store sums : List ℤ) (d n : ℕ) (e : n ≡ first (wi
   unfolding withdrawOutcome
   refused h = sym (refused-with _ _ (withdrawChecks c store sums d) n e h)
 
-  accepted : n ≡ 0 → (k p : ℕ) → k ≡ slotOfDay c d → p ≡ P (c .order) → {r : Campaign} {s u : List ℤ} → r ≡ filed c d withdrawn k 0
+  accepted : n ≡ 0 → (k p : ℕ) → k ≡ slotOfDay c d → p ≡ P (c .order) → {r : Campaign} {s u : List ℤ} → r ≡ filed c d withdrawn k 0 0
       → s ≡ putAt (k * p) (table p (λ _. pos 0)) store → u ≡ put (table p (λ j. at sums j -ℤ at store (k * p + j))) sums
       → _≡_ {A = Withdrawn × List ℤ × List ℤ} (record { answer = 0; campaign = r }, s, u) (withdrawOutcome c store sums d)
   unfolding withdrawOutcome

@@ -14,8 +14,8 @@ judges : (y : List ℤ) {r : Rail} {b : Bool} → r ≡ railOf y → b ≡ still
 unfolding finding
 judges y e s = ap₂ judged e s
 
-first-rail-requires : tie.Need-first-rail-requires
-first-rail-requires c κs = search needs
+find-rail-requires : tie.Need-find-rail-requires
+find-rail-requires c κs = search needs
 
 enum-known-p : tie.Need-enum-known-p
 enum-known-p c = search needs
@@ -30,7 +30,7 @@ is-still-requires c κs = search needs
 quiet : (c : tie.After-is-still) → judged scan.Clear (c .is-still .result) ≡ finding (c .before .before .before .before .args .y .now)
 quiet c =
     let r = c .before .before .before in
-    judges (r .before .args .y .now) (sym (c .before .enum-told .given .1) ∙ r .first-rail .ensures) (c .is-still .ensures)
+    judges (r .before .args .y .now) (sym (c .before .enum-told .given .1) ∙ r .find-rail .ensures) (c .is-still .ensures)
 
 returns : tie.Need-returns
 returns c = ap (judged scan.Clear) (sym (c .if1 .taken)) ∙ quiet (c .before)
@@ -38,7 +38,7 @@ returns c = ap (judged scan.Clear) (sym (c .if1 .taken)) ∙ quiet (c .before)
 returns-2 : tie.Need-returns-2
 returns-2 c =
     let r = c .before .before .before in
-    judges (r .before .args .y .now) (sym (c .before .p .given .1) ∙ r .first-rail .ensures) refl
+    judges (r .before .args .y .now) (sym (c .before .p .given .1) ∙ r .find-rail .ensures) refl
 
 returns-3 : tie.Need-returns-3
 returns-3 c = ap (judged scan.Clear) (sym (c .if1 .left)) ∙ quiet (c .before)
@@ -47,7 +47,7 @@ pub look-spec : {M : Type 1} → statement M
 look-spec =
     tie.close
     (tie.spec
-    first-rail-requires
+    find-rail-requires
     enum-known-p
     enum-told
     is-still-requires

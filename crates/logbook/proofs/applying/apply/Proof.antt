@@ -6,6 +6,7 @@ use borrow.Author.Needs.{needs}
 use lib.IntN.{ℤ}
 use mir.Syntax.{w32}
 use mir.ValLaws.{toZ-ofZ}
+use Rattle.nights.specs.declared.Night.the-variants as night
 use Rattle.logbook.specs.Book.{said, beganOutcome, tookSample, closedOutcome, withdrewOutcome, askedOutcome}
 use Rattle.logbook.specs.Book.{Memory, memory, filing, sampling, asking, applied}
 use Rattle.logbook.specs.declared.Applied.{Applied}
@@ -34,9 +35,14 @@ module _ (b : Book) (m : Memory) {i : Item} where
   unfolding applied
   began e = rw e
 
-  opened : {d : ℕ} → i ≡ item.Open d → {x : Applied} {p : Phase} → x ≡ said p (b .campaign) line.Silent → p ≡ afterOpen d → (x, m) ≡ applied b i m
+  opened : {d : ℕ} → i ≡ item.Open d → {x : Applied} {p : Phase} → x ≡ said p (b .campaign) line.Silent → p ≡ afterOpen d night.Period → (x, m) ≡ applied b i m
   unfolding applied
   opened e q o = rw (e, q, o)
+
+  captured : {d k : ℕ} → i ≡ item.Capture d k → {x : Applied} {p : Phase} → x ≡ said p (b .campaign) line.Silent → p ≡ afterOpen d (night.Capture k)
+      → (x, m) ≡ applied b i m
+  unfolding applied
+  captured e q o = rw (e, q, o)
 
   sampled : {v : ℤ} → i ≡ item.Sample v → {x : Applied} {p : Phase} {z : List ℤ} → x ≡ said p (b .campaign) line.Silent
       → (p, z) ≡ tookSample (b .phase) v (m .recording)
@@ -77,7 +83,10 @@ enum-known-item-3 : tie.Need-enum-known-item-3
 enum-known-item-3 c = search needs
 
 take-sample-requires : tie.Need-take-sample-requires
-take-sample-requires c κs = search needs
+take-sample-requires c κs =
+    let t = c .before .before in
+    let s = t .before .before .before .before in
+    rw (t .item3 .given .1) at (s .pre)
 
 say-requires-2 : tie.Need-say-requires-2
 say-requires-2 c κs = search needs
@@ -99,6 +108,15 @@ enum-told-2 c = search needs
 
 ask-requires : tie.Need-ask-requires
 ask-requires c κs = search needs
+
+enum-known-item-5 : tie.Need-enum-known-item-5
+enum-known-item-5 c = search needs
+
+after-open-requires-2 : tie.Need-after-open-requires-2
+after-open-requires-2 c κs = search needs
+
+say-requires-3 : tie.Need-say-requires-3
+say-requires-3 c κs = search needs
 
 same-length : tie.Need-same-length
 same-length c = search needs
@@ -184,6 +202,12 @@ returns-6 c =
     let s = t .before .before .before .before in
     asked (s .args .book) (lent s) (t .enum-told2 .given .1) (e .ask .ensures)
 
+returns-7 : tie.Need-returns-7
+returns-7 c =
+    let t = c .before .before .before in
+    let s = t .before .before .before .before in
+    captured (s .args .book) (lent s) (t .item5 .given .1) (c .say3 .ensures) (c .before .after-open2 .ensures)
+
 pub apply-spec : {M : Type 1} → statement M
 apply-spec =
     tie.close
@@ -202,6 +226,9 @@ apply-spec =
     withdraw-day-requires
     enum-told-2
     ask-requires
+    enum-known-item-5
+    after-open-requires-2
+    say-requires-3
     same-length
     same-length-2
     returns
@@ -221,4 +248,5 @@ apply-spec =
     same-length-12
     same-length-13
     same-length-14
-    returns-6)
+    returns-6
+    returns-7)

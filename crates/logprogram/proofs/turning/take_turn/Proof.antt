@@ -5,7 +5,7 @@ use borrow.Author.Needs.{needs}
 use Rattle.log.specs.Log.{decoded}
 use Rattle.log.specs.declared.Found.{Found}
 use Rattle.log.specs.declared.Found.the-variants as found
-use Rattle.log.proofs.Finding.{whole-size}
+use Rattle.log.proofs.Finding.{fits-kind, whole-size, whole-fits}
 use Rattle.logbook.specs.Book.{memory}
 use Rattle.logprogram.specs.Program.{Place, placeOf, standsAt, turnOn, turn}
 use Rattle.logprogram.specs.declared.Turned.{Turned}
@@ -46,8 +46,8 @@ take-item-requires c κs =
     let d = f .before .before in
     let s = d .before .before .before .before .before .before .before in
     let here = found-at (place s) (s .args .bytes .now) (s .args .ended) in
-    let w = whole-size (subst (StandsAt (place s) (s .args .bytes .now) (s .args .ended)) (sym (stands d _ (f .found .given .1))) here) in
-    (w .2, s .pre .0, s .pre .1, s .pre .2, s .pre .3)
+    let w = subst (StandsAt (place s) (s .args .bytes .now) (s .args .ended)) (sym (stands d _ (f .found .given .1))) here in
+    (fits-kind (whole-fits w), (whole-size w .2, s .pre .0, s .pre .1, s .pre .2, s .pre .3))
 
 enum-told : tie.Need-enum-told
 enum-told c = search needs

@@ -21,25 +21,25 @@ use Rattle.meter.proofs.Starting.{startedOut, short-refused, short-some
 use Rattle.meter.proofs.campaigns.meter_start.Statement.{statement}
 use Rattle.meter.proofs.campaigns.meter_start.Tie as tie
 
-module _ (N taps C : ℕ) (days slots : List ℕ) (store sums : List ℤ) where
-  refused : {n : ℕ} → tablesShort days slots ≡ true → n ≡ first (startChecks N taps C [] []) → (n, days, slots, store, sums) ≡ startDoor N taps C days slots store sums
+module _ (N taps C : ℕ) (days slots periods : List ℕ) (store sums : List ℤ) where
+  refused : {n : ℕ} → tablesShort days slots periods ≡ true → n ≡ first (startChecks N taps C [] []) → (n, days, slots, periods, store, sums) ≡ startDoor N taps C days slots periods store sums
   unfolding startDoor
   refused {n} h e =
-      let q = e ∙ short-refused N taps C days slots store sums h in
-      sym (refused-with (λ n. (n, days, slots, store, sums)) _ (startDoorChecks N taps C days slots store sums) n q (λ z. short-some N taps C days slots store sums h (sym q ∙ z)))
+      let q = e ∙ short-refused N taps C days slots periods store sums h in
+      sym (refused-with (λ n. (n, days, slots, periods, store, sums)) _ (startDoorChecks N taps C days slots periods store sums) n q (λ z. short-some N taps C days slots periods store sums h (sym q ∙ z)))
 
-  opened : tablesShort days slots ≡ false → {c : Campaign} {e : Started} {s u : List ℤ} {days′ slots′ : List ℕ}
-      → c ≡ recordOf N taps C days slots → (e, s, u) ≡ startOutcome c N taps C store sums
-      → (days′ ≡ put (e .campaign .days) days) × (slots′ ≡ put (e .campaign .slots) slots)
-      → ((e .answer .number, days′, slots′, s, u) ≡ startDoor N taps C days slots store sums) × (e .answer .period ≡ told N taps (e .answer .number) 0)
-  opened h {c = c} {e = e} {s = s} {u = u} k o (f, g) = (
-    rw (f, g) (ap (startedOut days slots) (o ∙ ap (λ c. startOutcome c N taps C store sums) k) ∙ sym (start-opened N taps C days slots store sums h)),
+  opened : tablesShort days slots periods ≡ false → {c : Campaign} {e : Started} {s u : List ℤ} {days′ slots′ periods′ : List ℕ}
+      → c ≡ recordOf N taps C days slots periods → (e, s, u) ≡ startOutcome c N taps C store sums
+      → (days′ ≡ put (e .campaign .days) days) × (slots′ ≡ put (e .campaign .slots) slots) × (periods′ ≡ put (e .campaign .periods) periods)
+      → ((e .answer .number, days′, slots′, periods′, s, u) ≡ startDoor N taps C days slots periods store sums) × (e .answer .period ≡ told N taps (e .answer .number) 0)
+  opened h {c = c} {e = e} {s = s} {u = u} k o (f, g, i) = (
+    rw (f, g, i) (ap (startedOut days slots periods) (o ∙ ap (λ c. startOutcome c N taps C store sums) k) ∙ sym (start-opened N taps C days slots periods store sums h)),
     period-told N taps (ap (λ (o : Started × List ℤ × List ℤ). o .0 .answer) o ∙ start-tells c N taps C store sums),
   )
 
 -- an outcome of the door with another number
-abbrev with : ℕ → ℕ × List ℕ × List ℕ × List ℤ × List ℤ → ℕ × List ℕ × List ℕ × List ℤ × List ℤ
-with n o = (n, o .1, o .2, o .3, o .4)
+abbrev with : ℕ → ℕ × List ℕ × List ℕ × List ℕ × List ℤ × List ℤ → ℕ × List ℕ × List ℕ × List ℕ × List ℤ × List ℤ
+with n o = (n, o .1, o .2, o .3, o .4, o .5)
 
 tables-short-requires : tie.Need-tables-short-requires
 tables-short-requires c κs = search needs
@@ -49,7 +49,7 @@ start-refusal-requires c κs = search needs
 
 tell-requires : tie.Need-tell-requires
 tell-requires c κs =
-    let a = c .before .before .before .before .before .args in
+    let a = c .before .before .before .before .before .before .args in
     rw (c .start-refusal .ensures) (reached (a .order) (a .taps) (startChecks (a .order) (a .taps) (a .capacity) [] []) refl)
 
 write-answer-requires : tie.Need-write-answer-requires
@@ -59,25 +59,25 @@ returns : tie.Need-returns
 returns c =
     let w = c .before .before in
     let t = w .before .before in
-    let a = t .before .before .before .before .args in
+    let a = t .before .before .before .before .before .args in
     handed-on (a .order) (a .taps) (a .period .now) with refl
     (passed-on (a .order) (a .taps) with refl (w .tell .ensures)
-    (refused (a .order) (a .taps) (a .capacity) (a .days .now) (a .slots .now) (a .store .now) (a .sums .now)
+    (refused (a .order) (a .taps) (a .capacity) (a .days .now) (a .slots .now) (a .periods .now) (a .store .now) (a .sums .now)
     (sym (t .before .tables-short .ensures) ∙ t .if1 .taken) (w .before .start-refusal .ensures)))
     (c .write-answer .ensures)
 
 -- past the check
-wide : (c : tie.Else1) → tablesShort (c .before .before .before .before .args .days .now) (c .before .before .before .before .args .slots .now) ≡ false
+wide : (c : tie.Else1) → tablesShort (c .before .before .before .before .before .args .days .now) (c .before .before .before .before .before .args .slots .now) (c .before .before .before .before .before .args .periods .now) ≡ false
 wide c = sym (c .before .tables-short .ensures) ∙ c .if1 .left
 
 read-record-requires : tie.Need-read-record-requires
-read-record-requires c κs = long (c .before .before .before .before .before .before .args .days .now) (c .before .before .before .before .before .before .args .slots .now) (wide (c .before .before))
+read-record-requires c κs = long (c .before .before .before .before .before .before .before .before .args .days .now) (c .before .before .before .before .before .before .before .before .args .slots .now) (c .before .before .before .before .before .before .before .before .args .periods .now) (wide (c .before .before .before))
 
 start-requires : tie.Need-start-requires
 start-requires c κs = search needs
 
 write-record-requires : tie.Need-write-record-requires
-write-record-requires c κs = long (c .before .before .before .before .before .before .before .before .before .before .before .before .before .before .before .args .days .now) (c .before .before .before .before .before .before .before .before .before .before .before .before .before .before .before .args .slots .now) (wide (c .before .before .before .before .before .before .before .before .before .before .before))
+write-record-requires c κs = long (c .before .before .before .before .before .before .before .before .before .before .before .before .before .before .before .before .before .before .args .days .now) (c .before .before .before .before .before .before .before .before .before .before .before .before .before .before .before .before .before .before .args .slots .now) (c .before .before .before .before .before .before .before .before .before .before .before .before .before .before .before .before .before .before .args .periods .now) (wide (c .before .before .before .before .before .before .before .before .before .before .before .before .before))
 
 write-answer-requires-2 : tie.Need-write-answer-requires-2
 write-answer-requires-2 c κs = search needs
@@ -94,15 +94,18 @@ same-length-3 c = search needs
 same-length-4 : tie.Need-same-length-4
 same-length-4 c = search needs
 
+same-length-5 : tie.Need-same-length-5
+same-length-5 c = search needs
+
 returns-2 : tie.Need-returns-2
 returns-2 c =
-    let w = c .before .before .before .before .before .before .before in
-    let e = w .before .before .before .before .before .before in
+    let w = c .before .before .before .before .before .before .before .before .before in
+    let e = w .before .before .before .before .before .before .before in
     let k = e .before .before .before in
-    let i = k .before .before .before in
-    let a = i .before .before .before .before .args in
+    let i = k .before .before .before .before in
+    let a = i .before .before .before .before .before .args in
     handed-on (a .order) (a .taps) (a .period .now) with refl
-    (opened (a .order) (a .taps) (a .capacity) (a .days .now) (a .slots .now) (a .store .now) (a .sums .now)
+    (opened (a .order) (a .taps) (a .capacity) (a .days .now) (a .slots .now) (a .periods .now) (a .store .now) (a .sums .now)
     (wide i) (k .read-record .ensures) (e .start .ensures) (w .write-record .ensures))
     (c .write-answer2 .ensures)
 
@@ -123,4 +126,5 @@ meter-start-spec =
     same-length-2
     same-length-3
     same-length-4
+    same-length-5
     returns-2)

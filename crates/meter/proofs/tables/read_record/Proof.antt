@@ -16,44 +16,60 @@ days-front c = length-take-le 366 (c .args .days .now) (c .pre .0)
 slots-front : (c : tie.Start) → length (take 64 (c .args .slots .now)) ≡ 64
 slots-front c = length-take-le 64 (c .args .slots .now) (c .pre .1)
 
-alike : {N taps C : ℕ} {d days s slots : List ℕ} → d ≡ days → s ≡ slots
-    → _≡_ {A = Campaign} (record { order = N; taps = taps; capacity = C; days = d; slots = s }) (record { order = N; taps = taps; capacity = C; days = days; slots = slots })
-alike p q = rw (p, q)
+periods-front : (c : tie.Start) → length (take 64 (c .args .periods .now)) ≡ 64
+periods-front c = length-take-le 64 (c .args .periods .now) (c .pre .2)
 
-slice-aggregate-copy-days : tie.Need-slice-aggregate-copy-days
-slice-aggregate-copy-days c = sym (days-front (c .before .before .before))
+alike : {N taps C : ℕ} {d days s slots p periods : List ℕ} → d ≡ days → s ≡ slots → p ≡ periods
+    → _≡_ {A = Campaign} (record { order = N; taps = taps; capacity = C; days = d; slots = s; periods = p })
+    (record { order = N; taps = taps; capacity = C; days = days; slots = slots; periods = periods })
+alike p q r = rw (p, q, r)
 
-slice-aggregate-copy-days-2 : tie.Need-slice-aggregate-copy-days-2
-slice-aggregate-copy-days-2 c = refl
+slice-aggregate-copy-bytes : tie.Need-slice-aggregate-copy-bytes
+slice-aggregate-copy-bytes c = sym (days-front (c .before .before .before .before))
 
-copy-days-requires : tie.Need-copy-days-requires
-copy-days-requires c κs = omega (arith, days-front (c .before .before .before .before))
+slice-aggregate-copy-bytes-2 : tie.Need-slice-aggregate-copy-bytes-2
+slice-aggregate-copy-bytes-2 c = refl
+
+copy-bytes-requires : tie.Need-copy-bytes-requires
+copy-bytes-requires c κs = omega (arith, days-front (c .before .before .before .before .before))
 
 slice-aggregate-copy-slots : tie.Need-slice-aggregate-copy-slots
-slice-aggregate-copy-slots c = sym (slots-front (c .before .before .before .before .before .before .before))
+slice-aggregate-copy-slots c = sym (slots-front (c .before .before .before .before .before .before .before .before))
 
 slice-aggregate-copy-slots-2 : tie.Need-slice-aggregate-copy-slots-2
 slice-aggregate-copy-slots-2 c = refl
 
 copy-slots-requires : tie.Need-copy-slots-requires
-copy-slots-requires c κs = omega (arith, slots-front (c .before .before .before .before .before .before .before .before))
+copy-slots-requires c κs = omega (arith, slots-front (c .before .before .before .before .before .before .before .before .before))
+
+slice-aggregate-copy-bytes-3 : tie.Need-slice-aggregate-copy-bytes-3
+slice-aggregate-copy-bytes-3 c = sym (periods-front (c .before .before .before .before .before .before .before .before .before .before .before .before))
+
+slice-aggregate-copy-bytes-4 : tie.Need-slice-aggregate-copy-bytes-4
+slice-aggregate-copy-bytes-4 c = refl
+
+copy-bytes-requires-2 : tie.Need-copy-bytes-requires-2
+copy-bytes-requires-2 c κs = omega (arith, periods-front (c .before .before .before .before .before .before .before .before .before .before .before .before .before))
 
 returns : tie.Need-returns
 returns c =
-    let b = c .before .before .before .before .before in
-    let s = b .before .before .before .before .before in
+    let s = c .before .before .before .before .before .before .before .before .before .before .before .before .before .before .before in
     alike
-    (b .copy-days .ensures ∙ put-over (take 366 (s .args .days .now)) _ (days-front s))
-    (c .before .copy-slots .ensures ∙ put-over (take 64 (s .args .slots .now)) _ (slots-front s))
+    (c .before .before .before .before .before .before .before .before .before .copy-bytes .ensures ∙ put-over (take 366 (s .args .days .now)) _ (days-front s))
+    (c .before .before .before .before .before .copy-slots .ensures ∙ put-over (take 64 (s .args .slots .now)) _ (slots-front s))
+    (c .before .copy-bytes2 .ensures ∙ put-over (take 64 (s .args .periods .now)) _ (periods-front s))
 
 pub read-record-spec : {M : Type 1} → statement M
 read-record-spec =
     tie.close
     (tie.spec
-    slice-aggregate-copy-days
-    slice-aggregate-copy-days-2
-    copy-days-requires
+    slice-aggregate-copy-bytes
+    slice-aggregate-copy-bytes-2
+    copy-bytes-requires
     slice-aggregate-copy-slots
     slice-aggregate-copy-slots-2
     copy-slots-requires
+    slice-aggregate-copy-bytes-3
+    slice-aggregate-copy-bytes-4
+    copy-bytes-requires-2
     returns)

@@ -1,29 +1,33 @@
 -- `records::stored::add_row` meets its contract: the samples passed are added, and what is said of them is whether all were between the
--- rails. Assumes nothing.
+-- bounds. Assumes nothing.
 use mathlib.Core.Path.{_≡_, refl, sym, ap, ap₂, _∙_}
-use mathlib.Core.Bool.{_&&_}
+use mathlib.Core.Bool.{Bool, _&&_}
 use Prim.Native.Nat.{ℕ, _-_, _≤_, _<_}
 use native.Mathlib.Decide.{ℕ-discrete, decLt}
 use native.Mathlib.Omega.{arith}
-use lib.IntN.{pos, natAbs, _+ℤ_, +ℤ-idr}
+use lib.IntN.{ℤ, pos, natAbs, _+ℤ_, +ℤ-idr}
 use lib.ListN.{length, set, length-set, List·getD-eq-default}
 use lib.Seq.{getD-set-same, getD-set-other}
 use mir.Syntax.{w32, w64}
+use mir.Val.{toZ, ofZ}
 use mir.Facts.{toZ-ofZ}
 use Rattle.sums.specs.Lists.{at, every}
 use Rattle.sums.proofs.Bound.{small-fits, read, wide, wide-fits, natAbs-+, natAbs-≤}
-use Rattle.samples.specs.Samples.{inside}
+use lib.Signed.{leZ}
 use Rattle.sums.proofs.Everywhere.{every-next}
 use Rattle.records.proofs.stored.add_row.Statement.{statement}
 use Rattle.records.proofs.stored.add_row.Tie as tie
 
+abbrev bounded : ℤ → ℤ → ℤ → Bool
+bounded low high z = leZ low z && leZ z high
+
 abbrev Inv-loop : tie.InvT-loop
-Inv-loop row sums₀ good₀ j₀ sums good j =
-    (j ≤ length row) × (good ≡ every j (λ i. inside (at row i))) × (length sums ≡ length sums₀)
+Inv-loop row low high sums₀ good₀ j₀ sums good j =
+    (j ≤ length row) × (good ≡ every j (λ i. bounded (toZ w32 low) (toZ w32 high) (at row i))) × (length sums ≡ length sums₀)
     × ((i : ℕ) → i < j → at sums i ≡ at sums₀ i +ℤ at row i) × ((i : ℕ) → j ≤ i → at sums i ≡ at sums₀ i)
 
 abbrev μ-loop : tie.MeasureT-loop
-μ-loop row sums₀ good₀ j₀ sums good j = length row - j
+μ-loop row low high sums₀ good₀ j₀ sums good j = length row - j
 
 loop-holds : tie.Need-loop-holds Inv-loop μ-loop
 unfolding every
@@ -35,8 +39,8 @@ mul-x c = omega arith
 shared-slice-copy-out-x : tie.Need-shared-slice-copy-out-x Inv-loop μ-loop
 shared-slice-copy-out-x c = omega arith
 
-between-rails-requires : tie.Need-between-rails-requires Inv-loop μ-loop
-between-rails-requires c κs = tt
+between-requires : tie.Need-between-requires Inv-loop μ-loop
+between-requires c κs = tt
 
 cast-sums : tie.Need-cast-sums Inv-loop μ-loop
 cast-sums c = wide-fits (at (c .before .before .before .before .args .row .now) (c .before .before .before .loop .j)) (c .before .x .given)
@@ -76,7 +80,7 @@ loop-again c =
     let i = l .loop .inv in
     let new = toZ-ofZ (add-sums c) ∙ ap₂ _+ℤ_ (read w64 v (c .sums .given)) (wide x (c .before .before .x .given)) ∙ ap (λ z. z +ℤ x) (i .4 j (omega arith)) in (
       omega arith,
-      ap₂ _&&_ (i .1) (c .before .between-rails .ensures ∙ ap inside (read w32 x (c .before .before .x .given))) ∙ sym (every-next (λ k. inside (at row k)) j),
+      ap₂ _&&_ (i .1) (c .before .between .ensures ∙ ap (bounded (toZ w32 (ofZ w32 (b .args .low))) (toZ w32 (ofZ w32 (b .args .high)))) (read w32 x (c .before .before .x .given))) ∙ sym (every-next (λ k. bounded (toZ w32 (ofZ w32 (b .args .low))) (toZ w32 (ofZ w32 (b .args .high))) (at row k)) j),
       length-set (l .loop .sums) j _ ∙ i .2,
       λ k h. elim (ℕ-discrete k j) [
         | yes e ↦ ap (at (set (l .loop .sums) j _)) e ∙ getD-set-same (l .loop .sums) j _ (pos 0) (slice-copy-out-sums (c .before)) ∙ new ∙ sym (ap (λ n. at (b .args .sums .now) n +ℤ at row n) e)
@@ -94,7 +98,7 @@ returns c =
     let row = b .args .row .now in
     let i = c .before .loop .inv in
     let e : c .before .loop .j ≡ length row = omega arith in (
-      rw e at (i .1),
+      rw (e, toZ-ofZ (b .fits .low), toZ-ofZ (b .fits .high)) at (i .1),
       λ j. elim (decLt j (length row)) [
         | yes h ↦ i .3 j (omega arith)
         | no h ↦ i .4 j (omega arith) ∙ sym (ap (λ z. at (b .args .sums .now) j +ℤ z) (List·getD-eq-default row (pos 0) (omega arith)) ∙ +ℤ-idr (at (b .args .sums .now) j))
@@ -110,7 +114,7 @@ add-row-spec =
     loop-holds
     mul-x
     shared-slice-copy-out-x
-    between-rails-requires
+    between-requires
     cast-sums
     mul-sums
     slice-copy-out-sums

@@ -8,7 +8,7 @@ slice-aggregate-blocks-hold : tie.Need-slice-aggregate-blocks-hold
 slice-aggregate-blocks-hold c = refl
 
 blocks-hold-requires : tie.Need-blocks-hold-requires
-blocks-hold-requires c κs = (c .before .before .pre, omega arith)
+blocks-hold-requires c κs = (c .before .before .before .pre .0, (c .before .before .before .pre .1, omega arith))
 
 returns : tie.Need-returns
 returns c = c .before .blocks-hold .ensures

@@ -3,7 +3,7 @@ use mathlib.Core.Path.{_≡_, refl, sym, ap, _∙_}
 use mathlib.Core.Bool.{Bool, true, false, _&&_}
 use borrow.Author.Tests.{le-leb, lt-leb, not-true, not-false}
 use Rattle.sums.proofs.Everywhere.{both-true}
-use Rattle.records.specs.Record.{slotsHold, statesHold, pastFree, slotsStand, oneSlot}
+use Rattle.records.specs.Record.{slotsHold, statesHold, pastFree, slotsStand, oneSlot, periodsHold}
 use Rattle.records.proofs.Loops.{states-hold-is, one-slot-is}
 use borrow.Author.Needs.{needs}
 use Rattle.records.proofs.tables.filed_holds.Statement.{statement}
@@ -33,9 +33,9 @@ states-hold-requires c κs = search needs
 
 returns-3 : tie.Need-returns-3
 returns-3 c =
-    let k = c .before .before .before .before .before .before .before .before .args .c in
+    let k = c .before .before .before .before .before .before .before .before .before .args .c in
     let fails = sym (c .before .states-hold .ensures ∙ states-hold-is k) ∙ not-true (c .before .states-hold .result) (c .if3 .taken) in
-    sym (false-left (oneSlot k) (false-left (slotsStand k) (false-left (pastFree k) (false-right (slotsHold k) fails))))
+    sym (false-left (periodsHold k) (false-left (oneSlot k) (false-left (slotsStand k) (false-left (pastFree k) (false-right (slotsHold k) fails)))))
 
 slice-aggregate-past-free : tie.Need-slice-aggregate-past-free
 slice-aggregate-past-free c = search needs
@@ -45,9 +45,9 @@ past-free-requires c κs = search needs
 
 returns-4 : tie.Need-returns-4
 returns-4 c =
-    let k = c .before .before .before .before .before .before .before .before .before .before .before .args .c in
+    let k = c .before .before .before .before .before .before .before .before .before .before .before .before .args .c in
     let fails = sym (c .before .past-free .ensures) ∙ not-true (c .before .past-free .result) (c .if4 .taken) in
-    sym (false-left (oneSlot k) (false-left (slotsStand k) (false-right (slotsHold k && statesHold k) fails)))
+    sym (false-left (periodsHold k) (false-left (oneSlot k) (false-left (slotsStand k) (false-right (slotsHold k && statesHold k) fails))))
 
 slice-aggregate-slots-stand : tie.Need-slice-aggregate-slots-stand
 slice-aggregate-slots-stand c = search needs
@@ -60,9 +60,9 @@ slots-stand-requires c κs = search needs
 
 returns-5 : tie.Need-returns-5
 returns-5 c =
-    let k = c .before .before .before .before .before .before .before .before .before .before .before .before .before .before .before .args .c in
+    let k = c .before .before .before .before .before .before .before .before .before .before .before .before .before .before .before .before .args .c in
     let fails = sym (c .before .slots-stand .ensures) ∙ not-true (c .before .slots-stand .result) (c .if5 .taken) in
-    sym (false-left (oneSlot k) (false-right (slotsHold k && statesHold k && pastFree k) fails))
+    sym (false-left (periodsHold k) (false-left (oneSlot k) (false-right (slotsHold k && statesHold k && pastFree k) fails)))
 
 slice-aggregate-one-slot : tie.Need-slice-aggregate-one-slot
 slice-aggregate-one-slot c = search needs
@@ -75,16 +75,33 @@ one-slot-requires c κs = search needs
 
 returns-6 : tie.Need-returns-6
 returns-6 c =
-    let at5 = c .before .before .before in
+    let k = c .before .before .before .before .before .before .before .before .before .before .before .before .before .before .before .before .before .before .before .before .args .c in
+    let fails = sym (c .before .one-slot .ensures ∙ one-slot-is k) ∙ not-true (c .before .one-slot .result) (c .if6 .taken) in
+    sym (false-left (periodsHold k) (false-right (slotsHold k && statesHold k && pastFree k && slotsStand k) fails))
+
+slice-aggregate-periods-hold : tie.Need-slice-aggregate-periods-hold
+slice-aggregate-periods-hold c = search needs
+
+slice-aggregate-periods-hold-2 : tie.Need-slice-aggregate-periods-hold-2
+slice-aggregate-periods-hold-2 c = search needs
+
+periods-hold-requires : tie.Need-periods-hold-requires
+periods-hold-requires c κs = search needs
+
+returns-7 : tie.Need-returns-7
+returns-7 c =
+    let at6 = c .before .before .before in
+    let at5 = at6 .before .before .before .before in
     let at4 = at5 .before .before .before .before in
     let at3 = at4 .before .before .before in
     let at2 = at3 .before .before .before in
-    let k = at2 .before .before .before .before .before .args .c in
+    let k = at2 .before .before .before .before .before .before .args .c in
     let room : slotsHold k ≡ true = both-true (le-leb 1 (k .capacity) (at2 .before .if1 .left)) (le-leb (k .capacity) 64 (at2 .if2 .left)) in
     let states : statesHold k ≡ true = sym (at3 .before .states-hold .ensures ∙ states-hold-is k) ∙ not-false (at3 .before .states-hold .result) (at3 .if3 .left) in
     let past : pastFree k ≡ true = sym (at4 .before .past-free .ensures) ∙ not-false (at4 .before .past-free .result) (at4 .if4 .left) in
     let stand : slotsStand k ≡ true = sym (at5 .before .slots-stand .ensures) ∙ not-false (at5 .before .slots-stand .result) (at5 .if5 .left) in
-    c .one-slot .ensures ∙ one-slot-is k ∙ sym (ap (λ x. x && oneSlot k) (both-true (both-true (both-true room states) past) stand))
+    let once : oneSlot k ≡ true = sym (at6 .before .one-slot .ensures ∙ one-slot-is k) ∙ not-false (at6 .before .one-slot .result) (at6 .if6 .left) in
+    c .periods-hold .ensures ∙ sym (ap (λ x. x && periodsHold k) (both-true (both-true (both-true (both-true room states) past) stand) once))
 
 pub filed-holds-spec : {M : Type 1} → statement M
 filed-holds-spec =
@@ -106,4 +123,8 @@ filed-holds-spec =
     slice-aggregate-one-slot
     slice-aggregate-one-slot-2
     one-slot-requires
-    returns-6)
+    returns-6
+    slice-aggregate-periods-hold
+    slice-aggregate-periods-hold-2
+    periods-hold-requires
+    returns-7)

@@ -9,6 +9,7 @@ use native.Mathlib.Omega.{arith}
 use Rattle.register.proofs.Word.{small}
 use Rattle.register.proofs.Judged.{accepted-exactly}
 use Rattle.records.proofs.Holding.{Filed, filed-by, filed-tests, holds-together}
+use Rattle.records.proofs.Totals.{periods-few}
 use Rattle.records.proofs.Whole.{whole, all-places, does-not, both-ways}
 use Rattle.records.proofs.together.holds.Statement.{statement}
 use Rattle.records.proofs.together.holds.Tie as tie
@@ -68,20 +69,23 @@ returns-4 c =
 slice-aggregate-store-holds : tie.Need-slice-aggregate-store-holds
 slice-aggregate-store-holds c = search needs
 
+slice-aggregate-store-holds-2 : tie.Need-slice-aggregate-store-holds-2
+slice-aggregate-store-holds-2 c = search needs
+
 store-holds-requires : tie.Need-store-holds-requires
 store-holds-requires c κs =
-    let f = filed (c .before .before .before .before .before .before) in
-    (f .most, search needs, omega (arith, c .before .before .before .if3 .left), omega (arith, c .before .before .if4 .left))
+    let f = filed (c .before .before .before .before .before .before .before .before) in
+    ((f .most, search needs, search needs, omega (arith, c .before .before .before .before .before .if3 .left), omega (arith, c .before .before .before .before .if4 .left)), λ s l. periods-few _ f s l)
 
 returns-5 : tie.Need-returns-5
 returns-5 c =
-    let n = c .before .before .before .before .before in
+    let n = c .before .before .before .before .before .before .before in
     let a = n .before .before .before .before .before .before .args in
     let e = n .full-period .ensures in
     let two = rw e at (c .store-holds .ensures) in
     both-ways _ _
     (λ t. holds-together (a .c) (a .store .now) (a .sums .now) .1
-    (whole (a .c) (a .store .now) (a .sums .now) (filed (n .before .before)) (rw e at (c .before .before .before .before .if3 .left)) (rw e at (c .before .before .before .if4 .left)) (two .0 t)))
+    (whole (a .c) (a .store .now) (a .sums .now) (filed (n .before .before)) (rw e at (c .before .before .before .before .before .before .if3 .left)) (rw e at (c .before .before .before .before .before .if4 .left)) (two .0 t)))
     (λ h. two .1 (all-places (a .c) (a .store .now) (a .sums .now) (holds-together (a .c) (a .store .now) (a .sums .now) .0 h)))
 
 pub holds-spec : {M : Type 1} → statement M
@@ -99,5 +103,6 @@ holds-spec =
     returns-3
     returns-4
     slice-aggregate-store-holds
+    slice-aggregate-store-holds-2
     store-holds-requires
     returns-5)

@@ -14,10 +14,10 @@ again rest times d odd e =
     ap (λ p. rest / 2 * p) (ap (λ k. 2 ^ k) (add-one times) ∙ pow-succ' 2 times) ∙ sym (mul-assoc (rest / 2) 2 (2 ^ times)) ∙ ap (λ z. z * 2 ^ times) even ∙ e
 
 abbrev Inv-loop : tie.InvT-loop
-Inv-loop d rest₀ times₀ rest times = (times ≤ 16) × (rest * 2 ^ times ≡ d)
+Inv-loop d rest₀ times₀ rest times = (times ≤ 26) × (rest * 2 ^ times ≡ d)
 
 abbrev μ-loop : tie.MeasureT-loop
-μ-loop d rest₀ times₀ rest times = 16 - times
+μ-loop d rest₀ times₀ rest times = 26 - times
 
 loop-holds : tie.Need-loop-holds Inv-loop μ-loop
 loop-holds c = (omega arith, mul-one (c .args .d))

@@ -1,7 +1,7 @@
 -- `trend::answering::response` meets its contract. Assumes nothing.
 use mathlib.Core.Path.{_≡_, sym, ap, ap₂, _∙_}
 use mathlib.Core.List.{List}
-use Prim.Native.Nat.{ℕ, _+_, _*_, _<_}
+use Prim.Native.Nat.{ℕ, _+_, _<_}
 use native.Mathlib.Omega.{arith}
 use borrow.Author.Needs.{needs}
 use lib.IntN.{ℤ, pos}
@@ -12,11 +12,9 @@ use Rattle.sums.proofs.Tables.{at-put, table-ext}
 use Rattle.register.specs.Register.{P}
 use Rattle.samples.specs.Samples.{sampleOut, clearedWide, clearedTags}
 use Rattle.rounding.specs.Rounding.{rounded}
-use Rattle.records.specs.Record.{standing}
 use Rattle.records.specs.declared.Campaign.{Campaign}
-use Rattle.records.proofs.Loops.{days-in-is}
 use Rattle.records.proofs.Totals.{sum-small}
-use Rattle.trend.specs.Calls.{responseChecks, worked, divisor, meanAt, responseOutcome}
+use Rattle.trend.specs.Calls.{responseChecks, worked, meanAt, responseOutcome}
 use Rattle.trend.proofs.Bounds.{divisor-some, divisor-small, mean-fits}
 use Rattle.trend.proofs.Passing.{Answers, answers}
 use Rattle.trend.proofs.answering.response.Statement.{statement}
@@ -44,52 +42,38 @@ ready : (c : tie.Else1) → let a = c .before .before .before .args in Answers (
 ready c = let a = c .before .before .before .args in answers (a .c) (a .store .now) (a .sums .now) (a .r .now) (a .mean .now) (a .room .now) (a .tags .now) (sym (c .before .response-refusal .ensures) ∙ c .if1 .left)
 
 full-period-requires : tie.Need-full-period-requires
-full-period-requires c κs = ready (c .before) .whole .filed .accepted .shaped .most
+full-period-requires c κs = ready c .whole .filed .accepted .shaped .most
 
 cast-period : tie.Need-cast-period
 cast-period c = search needs
 
-add-divisor : tie.Need-add-divisor
-add-divisor c = search needs
-
-slice-aggregate-days-in : tie.Need-slice-aggregate-days-in
-slice-aggregate-days-in c = search needs
-
-days-in-requires : tie.Need-days-in-requires
-days-in-requires c κs = search needs
-
--- what is divided by
-divisor-is : (c : tie.After-days-in) → (c .before .before .full-period .result + 1) * c .days-in .result ≡ divisor (c .before .before .before .before .before .before .before .args .c)
-divisor-is c = ap₂ (λ p n. (p + 1) * n) (c .before .before .full-period .ensures) (c .days-in .ensures ∙ days-in-is (c .before .before .before .before .before .before .before .args .c) standing)
-
-cast-divisor : tie.Need-cast-divisor
-cast-divisor c = search needs
-
-mul-divisor : tie.Need-mul-divisor
-mul-divisor c = record { fits = omega (arith, divisor-is c, divisor-small _ (ready (c .before .before .before .before) .whole .filed)) }
+divisor-of-requires : tie.Need-divisor-of-requires
+divisor-of-requires c κs =
+    let f = ready (c .before) .whole .filed in
+    (f .accepted .shaped .most, f .most, divisor-small _ f)
 
 turn-sums-requires : tie.Need-turn-sums-requires
 turn-sums-requires c κs =
-    let a = c .before .before .before .before .before .before .before .before .before .before .args in
-    let r = ready (c .before .before .before .before .before .before .before) in (
+    let a = c .before .before .before .before .before .before .before .before .args in
+    let r = ready (c .before .before .before .before .before) in (
       (r .whole .filed .accepted, sum-small (a .c) (a .store .now) (a .sums .now) (r .whole)),
       (r .whole .sums-long, r .r-long, r .room-long, r .tags-long),
     )
 
 -- what was worked
-turned : (c : tie.After-turn-sums) (k : ℕ) → let a = c .before .before .before .before .before .before .before .before .before .before .before .args in k < P (a .c .order) → at (c .turn-sums .last .1 .1 .1 .0) k ≡ worked (a .c) (a .sums .now) k
+turned : (c : tie.After-turn-sums) (k : ℕ) → let a = c .before .before .before .before .before .before .before .before .before .args in k < P (a .c .order) → at (c .turn-sums .last .1 .1 .1 .0) k ≡ worked (a .c) (a .sums .now) k
 turned c k l =
-    let a = c .before .before .before .before .before .before .before .before .before .before .before .args in
+    let a = c .before .before .before .before .before .before .before .before .before .args in
     ap (λ v. at v k) (c .turn-sums .ensures .0) ∙ at-put (P (a .c .order)) (worked (a .c) (a .sums .now)) (a .r .now) k (pos 0) l
 
 write-means-requires : tie.Need-write-means-requires
 write-means-requires c κs =
     let t = c .before .before .before .before .before .before in
-    let a = c .before .before .before .before .before .before .before .before .before .before .before .before .before .before .before .before .before .args in
-    let r = ready (c .before .before .before .before .before .before .before .before .before .before .before .before .before .before) in
-    let p = c .before .before .before .before .before .before .before .before .before .before .before .before .full-period .ensures in
-    let d = divisor-is (c .before .before .before .before .before .before .before .before .before .before) in (
-      (omega (arith, p, t .turn-sums .kept .1 .1 .1 .0, r .r-long), omega (arith, p, r .mean-long), omega (arith, d, divisor-some (a .c) (r .some))),
+    let a = c .before .before .before .before .before .before .before .before .before .before .before .before .before .before .before .args in
+    let r = ready (c .before .before .before .before .before .before .before .before .before .before .before .before) in
+    let p = c .before .before .before .before .before .before .before .before .before .before .before .full-period .ensures in
+    let d = c .before .before .before .before .before .before .before .before .before .before .divisor-of .ensures in (
+      (omega (arith, p, t .turn-sums .kept .1 .1 .1 .0, r .r-long), omega (arith, p, r .mean-long), omega (arith, d, divisor-some (a .c) (r .whole .filed) (r .some))),
       λ k l.
           ap₂ (λ z n. sampleOut (rounded z n)) (turned t k (omega (arith, p))) d ∙ mean-fits (a .c) (a .store .now) (a .sums .now) (r .whole) (r .some) k,
     )
@@ -106,21 +90,21 @@ same-length-3 c = search needs
 same-length-4 : tie.Need-same-length-4
 same-length-4 c = search needs
 
-mean-is : (c : tie.After-write-means) → let a = c .before .before .before .before .before .before .before .before .before .before .before .before .before .before .before .before .before .before .args in c .write-means .last .1 .0 ≡ put (table (P (a .c .order)) (meanAt (a .c) (a .sums .now))) (a .mean .now)
+mean-is : (c : tie.After-write-means) → let a = c .before .before .before .before .before .before .before .before .before .before .before .before .before .before .before .before .args in c .write-means .last .1 .0 ≡ put (table (P (a .c .order)) (meanAt (a .c) (a .sums .now))) (a .mean .now)
 mean-is c =
     let t = c .before .before .before .before .before .before .before in
-    let n = c .before .before .before .before .before .before .before .before .before .before .before in
-    let p = n .before .before .full-period in
-    let a = c .before .before .before .before .before .before .before .before .before .before .before .before .before .before .before .before .before .before .args in
+    let d = c .before .before .before .before .before .before .before .before .before .before .before .divisor-of in
+    let p = c .before .before .before .before .before .before .before .before .before .before .before .before .full-period in
+    let a = c .before .before .before .before .before .before .before .before .before .before .before .before .before .before .before .before .args in
     c .write-means .ensures
     ∙ ap (λ v. put v (a .mean .now))
-    (ap (λ m. table m (λ k. rounded (at (t .turn-sums .last .1 .1 .1 .0) k) ((p .result + 1) * n .days-in .result))) (p .ensures)
-    ∙ table-ext (P (a .c .order)) (λ k l. ap₂ rounded (turned t k l) (divisor-is n)))
+    (ap (λ m. table m (λ k. rounded (at (t .turn-sums .last .1 .1 .1 .0) k) (d .result))) (p .ensures)
+    ∙ table-ext (P (a .c .order)) (λ k l. ap₂ rounded (turned t k l) (d .ensures)))
 
 returns-2 : tie.Need-returns-2
 returns-2 c =
     let t = c .before .before .before .before .before .before .before .before in
-    let w = c .before .before .before .before .before .before .before .before .before .before .before .before .before .before .before .before in
+    let w = c .before .before .before .before .before .before .before .before .before .before .before .before .before .before in
     let a = w .before .before .before .args in
     let e = t .turn-sums .ensures in
     accepted (a .c) (a .store .now) (a .sums .now) (a .r .now) (a .mean .now) (a .room .now) (a .tags .now) _ (w .before .response-refusal .ensures) (w .if1 .left) (e .0) (mean-is (c .before)) (e .1) (e .2)
@@ -133,11 +117,7 @@ response-spec =
     returns
     full-period-requires
     cast-period
-    add-divisor
-    slice-aggregate-days-in
-    days-in-requires
-    cast-divisor
-    mul-divisor
+    divisor-of-requires
     turn-sums-requires
     write-means-requires
     same-length

@@ -2,7 +2,7 @@
 use mathlib.Core.Path.{_≡_, sym, ap, ap₂, _∙_}
 use mathlib.Core.Bool.{cond}
 use mathlib.Core.List.{List}
-use Prim.Native.Nat.{ℕ, _+_, _*_}
+use Prim.Native.Nat.{ℕ, _+_}
 use native.Mathlib.Omega.{arith}
 use borrow.Author.Needs.{needs}
 use borrow.Author.Tests.{eq-eqb, ne-eqb}
@@ -81,24 +81,10 @@ returns-2 c =
 some : (c : tie.Else2) → daysIn (c .before .before .before .before .before .before .before .args .c) standing ≡ 0 → ⊥
 some c z = c .if2 .left (standing-are (c .before) ∙ z)
 
-full-period-requires : tie.Need-full-period-requires
-full-period-requires c κs = ready (c .before .before .before .before) .whole .filed .accepted .shaped .most
-
--- what is divided by
-divisor-is : (c : tie.After-full-period) → (c .full-period .result + 1) * c .before .before .days-in .result ≡ divisor (c .before .before .before .before .before .before .before .before .args .c)
-divisor-is c = ap₂ (λ p n. (p + 1) * n) (c .full-period .ensures) (standing-are (c .before .before))
-
-cast-divisor : tie.Need-cast-divisor
-cast-divisor c = search needs
-
-add-divisor : tie.Need-add-divisor
-add-divisor c = search needs
-
-cast-divisor-2 : tie.Need-cast-divisor-2
-cast-divisor-2 c = search needs
-
-mul-divisor : tie.Need-mul-divisor
-mul-divisor c = record { fits = omega (arith, divisor-is c, divisor-small _ (ready (c .before .before .before .before .before) .whole .filed)) }
+divisor-of-requires : tie.Need-divisor-of-requires
+divisor-of-requires c κs =
+    let f = ready (c .before .before .before .before) .whole .filed in
+    (f .accepted .shaped .most, f .most, divisor-small _ f)
 
 measure-requires : tie.Need-measure-requires
 measure-requires c κs =
@@ -112,7 +98,7 @@ levels-of-requires : tie.Need-levels-of-requires
 levels-of-requires c κs =
     let a = c .before .before .before .before .before .before .before .before .before .before .before .before .before .before .args in
     let r = ready (c .before .before .before .before .before .before .before .before .before .before .before) in
-    let d = divisor-is (c .before .before .before .before .before .before) in
+    let d = c .before .before .before .before .before .before .divisor-of .ensures in
     let s = extremes-small (a .c) (a .store .now) (a .sums .now) (r .whole) in
     let e = c .before .before .before .measure .ensures .0 in (
       (
@@ -120,7 +106,7 @@ levels-of-requires c κs =
         omega (arith, ap (λ x. natAbs (x .lowest)) e, s .1),
         omega (arith, ap (λ x. natAbs (x .peak)) e, s .2),
       ),
-      (omega (arith, d, divisor-some (a .c) (some (c .before .before .before .before .before .before .before))), omega (arith, d, divisor-small (a .c) (r .whole .filed))),
+      (omega (arith, d, divisor-some (a .c) (r .whole .filed) (some (c .before .before .before .before .before .before .before))), omega (arith, d, divisor-small (a .c) (r .whole .filed))),
     )
 
 same-length : tie.Need-same-length
@@ -135,7 +121,7 @@ returns-3 c =
     let a = c .before .before .before .before .before .before .before .before .before .before .before .before .before .before .before .args in
     let e = c .before .before .before .before .measure .ensures in
     measured (a .c) (a .store .now) (a .sums .now) (a .room .now) (a .tags .now) _ (w .before .summary-refusal .ensures) (w .if1 .left) (some (c .before .before .before .before .before .before .before .before))
-    (c .levels-of .ensures ∙ ap₂ over (e .0) (divisor-is (c .before .before .before .before .before .before .before))) (e .1) (e .2)
+    (c .levels-of .ensures ∙ ap₂ over (e .0) (c .before .before .before .before .before .before .before .divisor-of .ensures)) (e .1) (e .2)
 
 pub summary-spec : {M : Type 1} → statement M
 summary-spec =
@@ -146,11 +132,7 @@ summary-spec =
     slice-aggregate-days-in
     days-in-requires
     returns-2
-    full-period-requires
-    cast-divisor
-    add-divisor
-    cast-divisor-2
-    mul-divisor
+    divisor-of-requires
     measure-requires
     levels-of-requires
     same-length

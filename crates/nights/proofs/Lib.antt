@@ -1,0 +1,2 @@
+-- The laws of a night's samples.
+pub mod Terms
