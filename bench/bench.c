@@ -1,6 +1,7 @@
 /* Times the proved meter beside plain C, in one process: for each order and each piece of work the best and the median of the rounds, in
  * microseconds, one line each: order, name, best, median. Each round runs every piece of its group once, so that all see the same machine: first
- * what turns one recording, then what goes over a store of 64 slots, then what goes over one of a single slot. */
+ * what turns one recording, then what goes over a store of 64 slots, then what goes over one of a single slot, then what judges a night and lends no
+ * store. */
 #include "meter.h"
 #include "plain.h"
 #include <math.h>
@@ -54,6 +55,11 @@ static void enter(void) {
     size_t value;
     must(meter_enter(RECORD, 64, y, p, &state, &value) == 0 && value == 63, "enter");
 }
+static void file(void) {
+    uint32_t state;
+    size_t value;
+    must(meter_file(RECORD, 64, y, p, METER_STANDING, 0, &state, &value) == 0 && value == 63, "file");
+}
 /* A converter that dithers, and nothing else. */
 static void dead(void) {
     uint32_t state;
@@ -76,6 +82,19 @@ static void capture_one(void) {
     size_t value;
     must(meter_capture(ONE, 1, PERIODS, heard, (PERIODS + 1) * p, &state, &value) == 0 && state == METER_STANDING, "capture, one slot");
 }
+static void judge(void) {
+    uint32_t state;
+    size_t value;
+    must(meter_judge(order, taps, y, p, &state, &value, &period) == 0 && state == METER_STANDING, "judge");
+}
+static void judge_capture(void) {
+    uint32_t state;
+    size_t value;
+    must(meter_judge_capture(order, taps, PERIODS, heard, (PERIODS + 1) * p, &state, &value, &period) == 0 && state == METER_STANDING, "judge a capture");
+}
+/* The least that reading a night's samples takes; done before a piece, unmeasured, it leaves the cache alike for all that read them. */
+static void pass_night(void) { sink += plain_pass(y, p); }
+static void pass_capture(void) { sink += plain_pass(heard, (PERIODS + 1) * p); }
 static void pass_heard(void) { sink += plain_pass(heard, (PERIODS + 1) * p) + plain_pass(store, SLOT_COUNT * p); }
 static void pass_heard_one(void) { sink += plain_pass(heard, (PERIODS + 1) * p) + plain_pass(one_store, p); }
 /* What a piece before it has entered goes out again, unmeasured. */
@@ -140,11 +159,13 @@ static struct {
     {"fftw", fftw, NULL, {0}},
 #endif
     {"predict", predict, NULL, {0}}, {"plain_predict", prediction, NULL, {0}}, {"refused", refused, NULL, {0}}, {"walk", walk, NULL, {0}},
-    {"enter", enter, make_room, {0}}, {"dead", dead, NULL, {0}}, {"pass", pass, NULL, {0}}, {"response", response, NULL, {0}},
+    {"enter", enter, make_room, {0}}, {"file", file, make_room, {0}}, {"dead", dead, NULL, {0}}, {"pass", pass, NULL, {0}}, {"response", response, NULL, {0}},
     {"withdraw", withdraw, NULL, {0}}, {"capture", capture, NULL, {0}}, {"heard", pass_heard, NULL, {0}},
     {"enter_one", enter_one, make_one_room, {0}}, {"capture_one", capture_one, make_one_room, {0}}, {"heard_one", pass_heard_one, NULL, {0}},
+    {"judge", judge, pass_night, {0}}, {"night", pass_night, pass_night, {0}}, {"judge_capture", judge_capture, pass_capture, {0}},
+    {"captured", pass_capture, pass_capture, {0}},
 };
-enum { PIECES = sizeof pieces / sizeof *pieces, ONE_SLOT = PIECES - 3, OVER_THE_STORE = ONE_SLOT - 7 };
+enum { PIECES = sizeof pieces / sizeof *pieces, NO_STORE = PIECES - 4, ONE_SLOT = NO_STORE - 3, OVER_THE_STORE = ONE_SLOT - 8 };
 
 static double now(void) {
     struct timespec t;
@@ -237,7 +258,8 @@ int main(void) {
         begin(n);
         rounds(0, OVER_THE_STORE);
         rounds(OVER_THE_STORE, ONE_SLOT);
-        rounds(ONE_SLOT, PIECES);
+        rounds(ONE_SLOT, NO_STORE);
+        rounds(NO_STORE, PIECES);
         for (int i = 0; i < PIECES; i++) {
             qsort(pieces[i].times, ROUNDS, sizeof(double), smaller);
             printf("%u %s %.2f %.2f\n", order, pieces[i].name, pieces[i].times[0], pieces[i].times[ROUNDS / 2]);

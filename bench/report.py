@@ -23,6 +23,7 @@ PIECES = {
     "refused": "taps refused with 4, after nearly P steps",
     "walk": "(e) these steps by plain C",
     "enter": "enter into the 64th slot",
+    "file": "file into it with the verdict shown",
     "dead": "enter a dead night, every slot used",
     "withdraw": "withdraw it",
     "response": "response of 64 nights",
@@ -32,6 +33,10 @@ PIECES = {
     "enter_one": "enter into the only slot",
     "capture_one": "enter a capture of 16 periods into the only slot",
     "heard_one": "(g) one pass over its samples and the only slot",
+    "judge": "judge a night of one period",
+    "night": "(h) one pass over its samples",
+    "judge_capture": "judge a capture of 16 periods",
+    "captured": "(i) one pass over its samples",
 }
 RATIOS = [
     ("one recording to (a)", ["recording"], ["paper"]),
@@ -41,11 +46,14 @@ RATIOS = [
     ("prediction to (b)", ["predict"], ["plain_predict"]),
     ("taps refused with 4 to (e)", ["refused"], ["walk"]),
     ("enter to (d)", ["enter"], ["pass"]),
+    ("file to enter", ["file"], ["enter"]),
     ("a dead night to (d)", ["dead"], ["pass"]),
     ("withdraw to (d)", ["withdraw"], ["pass"]),
     ("response to one recording and (d)", ["response"], ["recording", "pass"]),
     ("a capture to (f)", ["capture"], ["heard"]),
     ("a capture into the only slot to (g)", ["capture_one"], ["heard_one"]),
+    ("a night judged to (h)", ["judge"], ["night"]),
+    ("a capture judged to (i)", ["judge_capture"], ["captured"]),
 ]
 # What was asked at the largest order: a bound on a ratio of bests.
 ASKED = [

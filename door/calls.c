@@ -1,5 +1,6 @@
-/* Calls every function of meter.h on document 01's numbers, asks for its refusals in words, and holds the period of each function that tells one to
- * what meter.h says, at every refusal that the function has. Prints nothing but what is wrong, and a last line. */
+/* Calls every function of meter.h on document 01's numbers, asks for its refusals in words, holds a night that is judged and filed to the same night
+ * entered, byte by byte, and the period of each function that tells one to what meter.h says, at every refusal that the function has. Prints nothing but
+ * what is wrong, and a last line. */
 #include "meter.h"
 #include <stdio.h>
 #include <string.h>
@@ -40,12 +41,13 @@ static int says(uint32_t answer, const char *words) {
 static uint32_t judged(uint32_t order, uint32_t taps) { return meter_taps(order, taps, &period); }
 
 static void words(void) {
-    EXPECT(says(METER_ACCEPTED, "accepted") && says(19, "unknown") && says(4294967295u, "unknown"));
+    EXPECT(says(METER_ACCEPTED, "accepted") && says(19, "unknown") && says(22, "unknown") && says(24, "unknown") && says(4294967295u, "unknown"));
     EXPECT(says(judged(17, 3), "order below 2 or above 16") && says(judged(2, 4), "taps not below 2^N"));
     EXPECT(says(judged(2, 2), "tap 0 clear") && says(judged(2, 1), "register not maximal"));
     EXPECT(says(METER_WRONG_LENGTH, "recording or response not exactly P long, capture not exactly (m+1)*P") && METER_WRONG_LENGTH == 5);
     EXPECT(says(METER_BEYOND_THE_PROGRAM, "the program only: order above 9, slots above 8, or 5 to 16 periods") && METER_BEYOND_THE_PROGRAM == 17);
     EXPECT(says(METER_PERIODS_OUT_OF_RANGE, "periods not 1 to 16") && METER_PERIODS_OUT_OF_RANGE == 18);
+    EXPECT(says(METER_VERDICT_DIFFERS, "verdict handed in is not what judging gives") && METER_VERDICT_DIFFERS == 23);
     for (uint32_t n = 0; n < 18; n++)
         EXPECT(!says(n, "unknown") && !says(n, meter_explain(n + 1)));
 }
@@ -155,11 +157,173 @@ static void captures(void) {
     EXPECT(meter_withdraw(RECORD, 1) == 0 && periods[0] == 0);
 }
 
+/* ---- a night judged, and filed with the verdict shown ---- */
+
+enum { RAIL = 8388607, UNTOLD = 77 };
+
+/* What judging or a filing wrote, LEFT where it wrote nothing. */
+enum { LEFT = 9 };
+static uint32_t state;
+static size_t value;
+
+static void forget(void) {
+    state = LEFT;
+    value = LEFT;
+    period = UNTOLD;
+}
+
+/* Whether the last call wrote this; a filing tells no period. */
+static int told_so(uint32_t as, size_t carried, uint32_t steps) { return state == as && value == carried && period == steps; }
+static int told_nothing(void) { return told_so(LEFT, LEFT, UNTOLD); }
+
+/* A night of one period, and the same as a capture behind a run-in at the rails. */
+struct night {
+    int32_t y[P], captured[2 * P];
+};
+
+static struct night night_of(const int32_t *y) {
+    struct night night;
+    memcpy(night.y, y, sizeof night.y);
+    for (size_t j = 0; j < P; j++)
+        night.captured[j] = RAIL;
+    memcpy(night.captured + P, y, sizeof night.y);
+    return night;
+}
+
+static uint32_t judge(const struct night *night) {
+    forget();
+    return meter_judge(ORDER, TAPS, night->y, P, &state, &value, &period);
+}
+
+static uint32_t judge_capture(const struct night *night) {
+    forget();
+    return meter_judge_capture(ORDER, TAPS, 1, night->captured, 2 * P, &state, &value, &period);
+}
+
+static uint32_t file(uint32_t day, const struct night *night, uint32_t shown, size_t place) {
+    forget();
+    return meter_file(RECORD, day, night->y, P, shown, place, &state, &value);
+}
+
+static uint32_t file_capture(uint32_t day, const struct night *night, uint32_t shown, size_t place) {
+    forget();
+    return meter_file_capture(RECORD, day, 1, night->captured, 2 * P, shown, place, &state, &value);
+}
+
+/* All that a campaign lends, tails included. */
+struct memory {
+    uint8_t days[METER_DAYS + 1], periods[METER_SLOTS + 1];
+    uint16_t slots[METER_SLOTS + 1];
+    int32_t store[SLOT_COUNT * P + 1];
+    int64_t sums[P + 1];
+};
+
+static struct memory memory_now(void) {
+    struct memory now;
+    memset(&now, 0, sizeof now);
+    memcpy(now.days, days, sizeof days);
+    memcpy(now.periods, periods, sizeof periods);
+    memcpy(now.slots, slots, sizeof slots);
+    memcpy(now.store, store, sizeof store);
+    memcpy(now.sums, sums, sizeof sums);
+    return now;
+}
+
+static void put_back(const struct memory *was) {
+    memcpy(days, was->days, sizeof days);
+    memcpy(periods, was->periods, sizeof periods);
+    memcpy(slots, was->slots, sizeof slots);
+    memcpy(store, was->store, sizeof store);
+    memcpy(sums, was->sums, sizeof sums);
+}
+
+static int memory_is(const struct memory *was) {
+    struct memory now = memory_now();
+    return memcmp(&now, was, sizeof now) == 0;
+}
+
+static const int32_t heard[P] = {-4, -12, -4, 12, 12, -12, 4}, quiet[P] = {5, 4, 9, 5, 6, 11, 5}, hit[P] = {0, 0, RAIL, 0, 0, 0, -RAIL - 1};
+static const struct { const int32_t *y; uint32_t state; size_t value; } nights[] = {
+    {heard, METER_STANDING, 0}, {quiet, METER_DEAD, 0}, {hit, METER_OVERLOADED, 2}};
+enum { NIGHTS = sizeof nights / sizeof *nights };
+
+static void judgements(void) {
+    for (size_t i = 0; i < NIGHTS; i++) {
+        struct night night = night_of(nights[i].y);
+        EXPECT(judge(&night) == 0 && told_so(nights[i].state, nights[i].value, P));
+        EXPECT(judge_capture(&night) == 0 && told_so(nights[i].state, nights[i].value, P));
+    }
+}
+
+/* On the same memory: entered, then judged and filed, and every byte and both numbers are the same. */
+static void filed_as_entered(uint32_t day, const struct night *night) {
+    struct memory was = memory_now(), now;
+    forget();
+    EXPECT(meter_enter(RECORD, day, night->y, P, &state, &value) == 0);
+    uint32_t entered_state = state;
+    size_t entered_value = value;
+    now = memory_now();
+    put_back(&was);
+    EXPECT(judge(night) == 0 && memory_is(&was) && file(day, night, state, value) == 0);
+    EXPECT(told_so(entered_state, entered_value, UNTOLD) && memory_is(&now));
+    put_back(&was);
+    EXPECT(judge_capture(night) == 0 && memory_is(&was) && file_capture(day, night, state, value) == 0);
+    EXPECT(told_so(entered_state, entered_value, UNTOLD) && memory_is(&now));
+}
+
+/* Each of the other verdicts, and pairs that say none. */
+static void filed_with_another(uint32_t day, const struct night *night, uint32_t right, size_t right_place) {
+    static const struct { uint32_t shown; size_t place; } pairs[] = {
+        {METER_STANDING, 0}, {METER_STANDING, 1}, {METER_OVERLOADED, 0}, {METER_OVERLOADED, 1}, {METER_OVERLOADED, 2}, {METER_OVERLOADED, P + 2},
+        {METER_DEAD, 0}, {METER_DEAD, 2}, {METER_UNSEEN, 0}, {METER_WITHDRAWN, 0}, {LEFT, LEFT}, {UINT32_MAX, SIZE_MAX}};
+    struct memory was = memory_now();
+    for (size_t i = 0; i < sizeof pairs / sizeof *pairs; i++) {
+        uint32_t shown = pairs[i].shown;
+        size_t place = pairs[i].place;
+        if (shown == right && place == right_place)
+            continue;
+        EXPECT(file(day, night, shown, place) == METER_VERDICT_DIFFERS && told_nothing() && memory_is(&was));
+        EXPECT(file_capture(day, night, shown, place) == METER_VERDICT_DIFFERS && told_nothing() && memory_is(&was));
+    }
+}
+
+/* The refusals of a filing but 23, at a campaign whose slots are all used and whose day 1 stands. */
+static void refused_filings(void) {
+    struct night night = night_of(heard), beyond = night;
+    struct memory was = memory_now();
+    beyond.y[P - 1] = beyond.captured[0] = RAIL + 1;
+    EXPECT(file(0, &night, METER_STANDING, 0) == 10 && file_capture(367, &night, METER_STANDING, 0) == 10 && told_nothing());
+    EXPECT(file(9, &beyond, METER_STANDING, 0) == 7 && file_capture(9, &beyond, METER_STANDING, 0) == 7 && told_nothing());
+    EXPECT(file(1, &night, METER_STANDING, 0) == 11 && file_capture(1, &night, METER_STANDING, 0) == 11 && told_nothing());
+    EXPECT(file(9, &night, METER_STANDING, 0) == 12 && file_capture(9, &night, METER_STANDING, 0) == 12 && told_nothing());
+    EXPECT(meter_file(RECORD, 9, night.y, P - 1, METER_STANDING, 0, &state, &value) == 5 && told_nothing());
+    EXPECT(meter_file_capture(RECORD, 9, 2, night.captured, 2 * P, METER_STANDING, 0, &state, &value) == 5 && told_nothing());
+    EXPECT(meter_file_capture(RECORD, 9, 17, night.captured, 2 * P, METER_STANDING, 0, &state, &value) == 18 && told_nothing());
+    EXPECT(memory_is(&was));
+    sums[0]++;
+    EXPECT(file(9, &night, METER_STANDING, 0) == 15 && file_capture(9, &night, METER_STANDING, 0) == 15 && told_nothing());
+    sums[0]--;
+    EXPECT(memory_is(&was));
+}
+
+static void filings(void) {
+    EXPECT(meter_start(RECORD, &period) == 0);
+    for (uint32_t day = 1; day <= SLOT_COUNT * NIGHTS; day++) {
+        size_t i = (day - 1) % NIGHTS;
+        struct night night = night_of(nights[i].y);
+        filed_with_another(day, &night, nights[i].state, nights[i].value);
+        filed_as_entered(day, &night);
+    }
+    EXPECT(slots[0] == 1 && slots[1] == 1 + NIGHTS && days[1] == METER_DEAD && days[2] == METER_OVERLOADED);
+    refused_filings();
+}
+
 /* ---- the period ---- */
 
-enum { UNTOLD = 77, MOST_ORDER = 16, MOST_P = 65535, LEFT = 9 };
-enum { OF_TAPS = 1, OF_SEQUENCE = 2, OF_RECORDING = 4, OF_PREDICT = 8, OF_IN_ROOM = 16, OF_START = 32, PREDICTIONS = OF_PREDICT | OF_IN_ROOM, ALL = 63 };
-static const char *const named[] = {"taps", "sequence", "recording", "predict", "predict_in_room", "start"};
+enum { MOST_ORDER = 16, MOST_P = 65535 };
+enum { OF_TAPS = 1, OF_SEQUENCE = 2, OF_RECORDING = 4, OF_PREDICT = 8, OF_IN_ROOM = 16, OF_START = 32, OF_JUDGE = 64, OF_JUDGE_CAPTURE = 128, ALL = 255 };
+enum { PREDICTIONS = OF_PREDICT | OF_IN_ROOM, JUDGEMENTS = OF_JUDGE | OF_JUDGE_CAPTURE };
+static const char *const named[] = {"taps", "sequence", "recording", "predict", "predict_in_room", "start", "judge", "judge_capture"};
 
 /* All that is lent, for the largest order, each byte LEFT before a call. */
 static struct lent {
@@ -167,17 +331,20 @@ static struct lent {
     uint16_t tags[MOST_P], slots[METER_SLOTS];
     int32_t samples[MOST_P], store[MOST_P];
     int64_t wide[MOST_P], room[MOST_P + 1], sums[MOST_P];
+    uint32_t state;
+    size_t value;
 } lent, before;
 
-/* A register, the slots beyond the first, by how much each length is short, and the first two values of a recording or a response of zeros. */
+/* A register, the slots and the periods of a capture beyond the first, by how much each length is short, and the first two values of a recording, a
+ * response or a capture of zeros. */
 struct given {
-    uint32_t order, taps, more_slots;
+    uint32_t order, taps, more_slots, more_periods;
     size_t in, out, room, tags, days, slots, periods, store, sums;
     int32_t values[2];
 };
 
 static uint32_t answer_of(unsigned function, const struct given *g, uint32_t *told) {
-    static int32_t in[MOST_P];
+    static int32_t in[2 * MOST_P];
     size_t p = g->order <= MOST_ORDER ? ((size_t)1 << g->order) - 1 : MOST_P;
     memcpy(in, g->values, sizeof g->values);
     switch (function) {
@@ -188,6 +355,9 @@ static uint32_t answer_of(unsigned function, const struct given *g, uint32_t *to
     case OF_PREDICT: return meter_predict(g->order, g->taps, in, p - g->in, lent.samples, p - g->out, told);
     case OF_IN_ROOM:
         return meter_predict_in_room(g->order, g->taps, in, p - g->in, lent.samples, p - g->out, lent.room, p + 1 - g->room, told);
+    case OF_JUDGE: return meter_judge(g->order, g->taps, in, p - g->in, &lent.state, &lent.value, told);
+    case OF_JUDGE_CAPTURE:
+        return meter_judge_capture(g->order, g->taps, 1 + g->more_periods, in, 2 * p - g->in, &lent.state, &lent.value, told);
     default:
         return meter_start(g->order, g->taps, 1 + g->more_slots, lent.days, METER_DAYS - g->days, lent.slots, METER_SLOTS - g->slots,
                            lent.periods, METER_SLOTS - g->periods, lent.store, p - g->store, lent.sums, p - g->sums, told);
@@ -207,16 +377,19 @@ static const struct { unsigned functions; struct given given; uint32_t answer, p
     {ALL, {.order = 16, .taps = 65535}, 4, 17},
     {ALL, {.order = 16, .taps = 99}, 4, 64897},
     /* Whatever else is wrong, 4 comes first and has its period. */
-    {ALL, {4, 15, 64, .in = 1, .out = 1, .room = 1, .tags = 1, .days = 1, .slots = 1, .periods = 1, .store = 1, .sums = 1, .values = {8388608, 0}}, 4, 5},
+    {ALL, {4, 15, 64, 16, .in = 1, .out = 1, .room = 1, .tags = 1, .days = 1, .slots = 1, .periods = 1, .store = 1, .sums = 1, .values = {8388608, 0}}, 4, 5},
     {ALL, {.order = 1, .taps = 3}, 1, UNTOLD},
     {ALL, {.order = 17, .taps = 3}, 1, UNTOLD},
     {ALL, {.order = 4, .taps = 16}, 2, UNTOLD},
     {ALL, {.order = 4, .taps = 14}, 3, UNTOLD},
-    {OF_RECORDING | PREDICTIONS, {3, 3, .in = 1}, 5, UNTOLD},
+    {OF_RECORDING | PREDICTIONS | JUDGEMENTS, {3, 3, .in = 1}, 5, UNTOLD},
     {OF_SEQUENCE | OF_RECORDING | PREDICTIONS, {3, 3, .out = 1}, 6, UNTOLD},
     {OF_RECORDING | OF_IN_ROOM, {3, 3, .room = 1}, 6, UNTOLD},
     {OF_RECORDING, {3, 3, .tags = 1}, 6, UNTOLD},
-    {OF_RECORDING | PREDICTIONS, {3, 3, .values = {8388608, 0}}, 7, UNTOLD},
+    {OF_RECORDING | PREDICTIONS | JUDGEMENTS, {3, 3, .values = {8388608, 0}}, 7, UNTOLD},
+    {JUDGEMENTS, {3, 3, .values = {8388607, -8388609}}, 7, UNTOLD},
+    {OF_JUDGE_CAPTURE, {3, 3, .more_periods = 16}, 18, UNTOLD},
+    {OF_JUDGE_CAPTURE, {3, 3, .more_periods = UINT32_MAX}, 18, UNTOLD},
     {PREDICTIONS, {3, 3, .values = {8388607, 8388607}}, 8, UNTOLD},
     {OF_START, {3, 3, .more_slots = 64}, 9, UNTOLD},
     {OF_START, {3, 3, .days = 1}, 6, UNTOLD},
@@ -253,6 +426,8 @@ int main(void) {
     recordings();
     campaigns();
     captures();
+    judgements();
+    filings();
     periods_told();
     printf("calls from C: %d expected, %d wrong\n", made, wrong);
     return wrong != 0;

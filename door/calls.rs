@@ -16,6 +16,9 @@ mod declared {
         pub fn meter_predict(order: u32, taps: u32, h: *const i32, h_len: usize, out: *mut i32, out_len: usize, period: &mut u32) -> u32;
         pub fn meter_predict_in_room(order: u32, taps: u32, h: *const i32, h_len: usize, out: *mut i32, out_len: usize,
             room: *mut i64, room_len: usize, period: &mut u32) -> u32;
+        pub fn meter_judge(order: u32, taps: u32, y: *const i32, y_len: usize, state: &mut u32, value: &mut usize, period: &mut u32) -> u32;
+        pub fn meter_judge_capture(order: u32, taps: u32, m: u32, y: *const i32, y_len: usize,
+            state: &mut u32, value: &mut usize, period: &mut u32) -> u32;
         pub fn meter_start(order: u32, taps: u32, capacity: u32, days: *mut u8, days_len: usize, slots: *mut u16, slots_len: usize,
             periods: *mut u8, periods_len: usize, store: *mut i32, store_len: usize, sums: *mut i64, sums_len: usize, period: &mut u32) -> u32;
         pub fn meter_enter(order: u32, taps: u32, capacity: u32, days: *mut u8, days_len: usize, slots: *mut u16, slots_len: usize,
@@ -24,6 +27,12 @@ mod declared {
         pub fn meter_capture(order: u32, taps: u32, capacity: u32, days: *mut u8, days_len: usize, slots: *mut u16, slots_len: usize,
             periods: *mut u8, periods_len: usize, store: *mut i32, store_len: usize, sums: *mut i64, sums_len: usize,
             day: u32, m: u32, y: *const i32, y_len: usize, state: &mut u32, value: &mut usize) -> u32;
+        pub fn meter_file(order: u32, taps: u32, capacity: u32, days: *mut u8, days_len: usize, slots: *mut u16, slots_len: usize,
+            periods: *mut u8, periods_len: usize, store: *mut i32, store_len: usize, sums: *mut i64, sums_len: usize,
+            day: u32, y: *const i32, y_len: usize, shown: u32, place: usize, state: &mut u32, value: &mut usize) -> u32;
+        pub fn meter_file_capture(order: u32, taps: u32, capacity: u32, days: *mut u8, days_len: usize, slots: *mut u16, slots_len: usize,
+            periods: *mut u8, periods_len: usize, store: *mut i32, store_len: usize, sums: *mut i64, sums_len: usize,
+            day: u32, m: u32, y: *const i32, y_len: usize, shown: u32, place: usize, state: &mut u32, value: &mut usize) -> u32;
         pub fn meter_withdraw(order: u32, taps: u32, capacity: u32, days: *mut u8, days_len: usize, slots: *mut u16, slots_len: usize,
             periods: *mut u8, periods_len: usize, store: *mut i32, store_len: usize, sums: *mut i64, sums_len: usize, day: u32) -> u32;
         pub fn meter_counts(order: u32, taps: u32, capacity: u32, days: *const u8, days_len: usize, slots: *const u16, slots_len: usize,
@@ -131,6 +140,33 @@ fn predict_in_room(order: u32, taps: u32, h: &[i32], out: &mut [i32], room: &mut
     told(|period| unsafe { declared::meter_predict_in_room(order, taps, h.as_ptr(), h.len(), out.as_mut_ptr(), out.len(), rp, rn, period) })
 }
 
+// A verdict's state and value: what judging and an entry write, and what is handed to a filing.
+type Pair = (u32, usize);
+
+// What the places for a verdict hold before a call.
+const UNSAID: Pair = (77, 77);
+
+// The answer of a call that writes a verdict, and what the verdict's places hold after it.
+type Said = (u32, Pair);
+
+fn said(call: impl FnOnce(&mut u32, &mut usize) -> u32) -> Said {
+    let (mut state, mut value) = UNSAID;
+    let answer = call(&mut state, &mut value);
+    (answer, (state, value))
+}
+
+fn judge(order: u32, taps: u32, y: &[i32]) -> (Said, u32) {
+    let mut period = UNTOLD;
+    let found = said(|state, value| unsafe { declared::meter_judge(order, taps, y.as_ptr(), y.len(), state, value, &mut period) });
+    (found, period)
+}
+
+fn judge_capture(order: u32, taps: u32, m: u32, y: &[i32]) -> (Said, u32) {
+    let mut period = UNTOLD;
+    let found = said(|state, value| unsafe { declared::meter_judge_capture(order, taps, m, y.as_ptr(), y.len(), state, value, &mut period) });
+    (found, period)
+}
+
 #[derive(Clone, PartialEq)]
 struct Campaign {
     order: u32,
@@ -184,6 +220,14 @@ impl Campaign {
             0 => Ok((state, value)),
             n => Err(n),
         }
+    }
+
+    fn file(&mut self, day: u32, y: &[i32], (shown, place): Pair) -> Said {
+        said(|state, value| lent!(meter_file, self, as_mut_ptr, day, y.as_ptr(), y.len(), shown, place, state, value))
+    }
+
+    fn file_capture(&mut self, day: u32, m: u32, y: &[i32], (shown, place): Pair) -> Said {
+        said(|state, value| lent!(meter_file_capture, self, as_mut_ptr, day, m, y.as_ptr(), y.len(), shown, place, state, value))
     }
 
     fn withdraw(&mut self, day: u32) -> u32 {
@@ -335,18 +379,88 @@ fn captures(facts: &mut Facts) {
     }
 }
 
-// What the six calls that tell a period answer to a register, all else being as they want it.
-fn each_call(order: u32, t: u32) -> [Told; 6] {
+// The states that a verdict gives a day, as meter.h numbers them.
+const STANDING: u32 = 1;
+const OVERLOADED: u32 = 2;
+const DEAD: u32 = 3;
+
+// A night of one period that is kept, one that is dead and one at a rail, each with what judging says of it.
+const JUDGED: [([i32; 7], Pair); 3] =
+    [(NIGHT, (STANDING, 0)), ([5, 4, 9, 5, 6, 11, 5], (DEAD, 0)), ([0, 0, 0, 8388607, 0, 0, -8388608], (OVERLOADED, 3))];
+
+fn judgements(facts: &mut Facts) {
+    for (y, pair) in JUDGED {
+        expect!(facts, judge(3, 3, &y) == ((0, pair), 7));
+        for m in [1, 2, 16] {
+            let captured = [vec![-8388608; 7], y.repeat(m as usize)].concat();
+            expect!(facts, judge_capture(3, 3, m, &captured) == ((0, pair), 7));
+            expect!(facts, judge_capture(3, 3, m, &captured[1..]) == ((5, UNSAID), UNTOLD));
+        }
+        expect!(facts, judge(3, 3, &y[1..]) == ((5, UNSAID), UNTOLD) && judge(4, 15, &y) == ((4, UNSAID), 5));
+        for m in [0, 17, 4294967295] {
+            expect!(facts, judge_capture(3, 3, m, &y) == ((18, UNSAID), UNTOLD) && judge_capture(4, 15, m, &y) == ((4, UNSAID), 5));
+        }
+    }
+    for beyond in [8388608, -8388609] {
+        let captured = nights(beyond, 1);
+        expect!(facts, judge(3, 3, &captured[6..13]) == ((7, UNSAID), UNTOLD) && judge_capture(3, 3, 1, &captured) == ((7, UNSAID), UNTOLD));
+    }
+}
+
+// The night filed with what judging says leaves what the night entered leaves; with any other pair nothing changes.
+fn filed_as_entered(facts: &mut Facts, begun: &Campaign, day: u32, y: &[i32], right: Pair) {
+    let captured = [vec![8388607; 7], y.to_vec()].concat();
+    let mut entered = begun.clone();
+    let found = entered.enter(day, y).expect("a night that is accepted");
+    let (mut one, mut other) = (begun.clone(), begun.clone());
+    for pair in [(STANDING, 0), (STANDING, 3), (OVERLOADED, 0), (OVERLOADED, 3), (OVERLOADED, 10), (DEAD, 0), (DEAD, 3), (0, 0), (4, 0), (9, 9)] {
+        if pair != right {
+            expect!(facts, one.file(day, y, pair) == (23, UNSAID) && other.file_capture(day, 1, &captured, pair) == (23, UNSAID));
+            expect!(facts, one == *begun && other == *begun);
+        }
+    }
+    expect!(facts, one.file(day, y, judge(3, 3, y).0.1) == (0, found) && one == entered);
+    expect!(facts, other.file_capture(day, 1, &captured, judge_capture(3, 3, 1, &captured).0.1) == (0, found) && other == entered);
+}
+
+fn filings(facts: &mut Facts) {
+    let (_, mut c) = Campaign::start(3, 3, 2, 366, 64);
+    for day in 1..=2 {
+        for (y, pair) in JUDGED {
+            filed_as_entered(facts, &c, day + 10, &y, pair);
+        }
+        expect!(facts, c.file_capture(day, 2, &nights(8388607, 2), (STANDING, 0)) == (0, (STANDING, day as usize - 1)));
+    }
+    let full = c.clone();
+    let (kept, dead) = ((STANDING, 0), (DEAD, 0));
+    expect!(facts, c.file(0, &NIGHT, kept) == (10, UNSAID) && c.file_capture(367, 17, &NIGHT, kept) == (10, UNSAID));
+    expect!(facts, c.file_capture(9, 17, &NIGHT, kept) == (18, UNSAID) && c.file_capture(9, 0, &NIGHT, kept) == (18, UNSAID));
+    expect!(facts, c.file(9, &NIGHT[1..], kept) == (5, UNSAID) && c.file_capture(9, 1, &NIGHT, kept) == (5, UNSAID));
+    expect!(facts, c.file(1, &[8388608; 7], kept) == (7, UNSAID) && c.file_capture(1, 1, &nights(8388608, 1), kept) == (7, UNSAID));
+    expect!(facts, c.file(1, &NIGHT, dead) == (11, UNSAID) && c.file_capture(1, 1, &nights(0, 1), dead) == (11, UNSAID));
+    expect!(facts, c.file(9, &NIGHT, dead) == (23, UNSAID) && c.file_capture(9, 1, &nights(0, 1), dead) == (23, UNSAID));
+    expect!(facts, c.file(9, &NIGHT, kept) == (12, UNSAID) && c.file_capture(9, 1, &nights(0, 1), kept) == (12, UNSAID));
+    expect!(facts, c == full);
+    c.sums[0] += 1;
+    expect!(facts, c.file(0, &NIGHT, dead) == (15, UNSAID) && c.file_capture(0, 17, &NIGHT, dead) == (15, UNSAID));
+}
+
+// What the eight calls that tell a period answer to a register, all else being as they want it.
+fn each_call(order: u32, t: u32) -> [Told; 8] {
     let p = length(order);
-    let (heard, mut bits, mut wide, mut y) = (vec![0; p], vec![0; p], vec![0; p], vec![0; p]);
+    let (heard, mut bits, mut wide, mut y) = (vec![0; 2 * p], vec![0; p], vec![0; p], vec![0; p]);
     let mut room = Room::new(p);
+    let ((one, _), one_told) = judge(order, t, &heard[p..]);
+    let ((several, _), several_told) = judge_capture(order, t, 1, &heard);
     [
         taps(order, t),
         sequence(order, t, &mut bits),
-        recording(order, t, &heard, &mut wide, &mut room),
-        predict(order, t, &heard, &mut y),
-        predict_in_room(order, t, &heard, &mut y, &mut room.wide),
+        recording(order, t, &heard[p..], &mut wide, &mut room),
+        predict(order, t, &heard[p..], &mut y),
+        predict_in_room(order, t, &heard[p..], &mut y, &mut room.wide),
         Campaign::start(order, t, 1, 366, 64).0,
+        (one, one_told),
+        (several, several_told),
     ]
 }
 
@@ -356,7 +470,7 @@ fn periods(facts: &mut Facts) {
     let accepted = [(2, 3, (0, 3)), (4, 9, (0, 15)), (16, 45, (0, 65535))];
     for (order, taps, answer) in refused.into_iter().chain(short).chain(accepted) {
         let found = each_call(order, taps);
-        facts.push((format!("order {order}, taps {taps}: {answer:?}, not {found:?}"), found == [answer; 6]));
+        facts.push((format!("order {order}, taps {taps}: {answer:?}, not {found:?}"), found == [answer; 8]));
     }
 }
 
@@ -366,6 +480,8 @@ fn main() -> ExitCode {
     recordings(&mut facts);
     campaigns(&mut facts);
     captures(&mut facts);
+    judgements(&mut facts);
+    filings(&mut facts);
     periods(&mut facts);
     let wrong: Vec<_> = facts.iter().filter(|(_, held)| !held).collect();
     for (fact, _) in &wrong {

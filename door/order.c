@@ -1,5 +1,6 @@
-/* Document 01's "Order of checks", with 18 of request 1 of document 02: for each two checks that stand side by side in a call's list, an input to which both apply, so that the answer
- * tells which comes first. Default taps and counts have one check. `second order` makes the same calls of its own functions and prints the same lines. */
+/* Document 01's "Order of checks", with 18 and 23 of requests 1 and 5 of document 02: for each two checks that stand side by side in a call's list, an
+ * input to which both apply, so that the answer tells which comes first. Default taps and counts have one check. `second order` makes the same calls of
+ * its own functions and prints the same lines. */
 #include "meter.h"
 #include <stdio.h>
 
@@ -319,7 +320,170 @@ static void judged_captures(void) {
     capture("12 alone", 1, 2, 2, two(KEPT, 0, 0));
 }
 
-/* Every call that names a day, on day 0. */
+/* ---- a night judged, with no record ---- */
+
+/* The answer of a judgement, its two variables of an entry, and that for the period, which holds UNWRITTEN before the call. */
+struct judgement {
+    struct entry said;
+    uint32_t period;
+};
+
+static void judgement_line(const char *call, const char *checks, struct judgement j) {
+    printf("%s: %s: %u %u %zu %u\n", call, checks, j.said.answer, j.said.state, j.said.value, j.period);
+}
+
+/* The samples of a night of one period, whole or one too short. */
+struct samples {
+    size_t n;
+    int32_t y[P];
+};
+
+static struct samples whole(int32_t first, int32_t second, int32_t third) {
+    return (struct samples){P, {first, second, third}};
+}
+
+static struct samples cut(int32_t first, int32_t second) {
+    return (struct samples){P - 1, {first, second}};
+}
+
+static void judge(const char *checks, uint32_t order, uint32_t taps, struct samples night) {
+    struct judgement j = {{0, 9, 9}, UNWRITTEN};
+    j.said.answer = meter_judge(order, taps, night.y, night.n, &j.said.state, &j.said.value, &j.period);
+    judgement_line("judge", checks, j);
+}
+
+static void judge_capture(const char *checks, uint32_t order, uint32_t taps, uint32_t m, struct shape shape) {
+    struct judgement j = {{0, 9, 9}, UNWRITTEN};
+    int32_t y[MOST];
+    shaped(y, shape);
+    j.said.answer = meter_judge_capture(order, taps, m, y, shape.n, &j.said.state, &j.said.value, &j.period);
+    judgement_line("judge capture", checks, j);
+}
+
+static void judges(void) {
+    judge("1 before 2", 1, 2, whole(KEPT, 0, 0));
+    judge("2 before 3", 2, 4, whole(KEPT, 0, 0));
+    judge("3 before 4", 2, 2, whole(KEPT, 0, 0));
+    judge("4 before 5", 2, 1, cut(KEPT, 0));
+    judge("5 before 7", ORDER, TAPS, cut(BEYOND, 0));
+    judge("7 before the verdict", ORDER, TAPS, whole(BEYOND, HIGHEST, HIGHEST));
+    judge("overloaded before dead", ORDER, TAPS, whole(HIGHEST, HIGHEST, HIGHEST));
+    judge("overloaded before dead", ORDER, TAPS, whole(LOWEST + 7, LOWEST, LOWEST));
+    judge("overloaded", ORDER, TAPS, whole(0, 0, HIGHEST));
+    judge("dead", ORDER, TAPS, whole(5, 5, 5));
+    judge("dead", ORDER, TAPS, whole(5, -2, -2));
+    judge("kept", ORDER, TAPS, whole(KEPT, 0, 0));
+    judge_capture("1 before 2", 1, 2, 1, plain(2 * P));
+    judge_capture("4 before 18", 2, 1, 0, plain(P));
+    judge_capture("4 before 18", 2, 1, MOST_PERIODS + 1, plain(2 * P));
+    judge_capture("18 before 5", ORDER, TAPS, 0, plain(2 * P));
+    judge_capture("18 before 5", ORDER, TAPS, MOST_PERIODS + 1, plain(2 * P));
+    judge_capture("18 before 5", ORDER, TAPS, UINT32_MAX, plain(2 * P));
+    judge_capture("5 before 7", ORDER, TAPS, 1, beyond(P));
+    judge_capture("5 before 7", ORDER, TAPS, 2, beyond(2 * P));
+    judge_capture("7 before the verdict", ORDER, TAPS, 1, (struct shape){2 * P, BEYOND, HIGHEST, HIGHEST, HIGHEST});
+    judge_capture("the run-in is not judged", ORDER, TAPS, 1, one(KEPT, 0, 0));
+    judge_capture("the run-in is not counted", ORDER, TAPS, 2, two(0, 0, HIGHEST));
+    judge_capture("dead", ORDER, TAPS, 1, one(5, -2, -2));
+}
+
+/* ---- a night filed with the verdict that is handed in ---- */
+
+/* The two numbers of a verdict. */
+struct pair {
+    uint32_t shown;
+    size_t place;
+};
+static const struct pair kept = {METER_STANDING, 0}, dead = {METER_DEAD, 0};
+
+static struct pair overloaded(size_t place) {
+    return (struct pair){METER_OVERLOADED, place};
+}
+
+static struct entry filed(uint32_t day, const int32_t *y, size_t n, struct pair pair) {
+    struct entry e = {0, 9, 9};
+    e.answer = meter_file(RECORD, day, y, n, pair.shown, pair.place, &e.state, &e.value);
+    return e;
+}
+
+static struct entry filed_capture(uint32_t day, uint32_t m, const int32_t *y, size_t n, struct pair pair) {
+    struct entry e = {0, 9, 9};
+    e.answer = meter_file_capture(RECORD, day, m, y, n, pair.shown, pair.place, &e.state, &e.value);
+    return e;
+}
+
+static void file(const char *checks, int standing, uint32_t day, struct samples night, struct pair pair) {
+    begin(WHOLE, standing);
+    entry_line("file", checks, filed(day, night.y, night.n, pair));
+}
+
+static void file_capture(const char *checks, int standing, uint32_t day, uint32_t m, struct shape shape, struct pair pair) {
+    int32_t y[MOST];
+    shaped(y, shape);
+    begin(WHOLE, standing);
+    entry_line("file capture", checks, filed_capture(day, m, y, shape.n, pair));
+}
+
+/* Verdicts that judging gives for other nights, and pairs that say none. */
+static void wrong_verdicts(void) {
+    static const struct { int32_t y[P]; struct pair pair; } wrong[] = {
+        {{5, 5, 5}, {METER_STANDING, 0}},
+        {{HIGHEST, 0, 0}, {METER_STANDING, 0}},
+        {{KEPT, 0, 0}, {METER_DEAD, 0}},
+        {{HIGHEST, 0, 0}, {METER_DEAD, 0}},
+        {{KEPT, 0, 0}, {METER_OVERLOADED, 0}},
+        {{5, 5, 5}, {METER_OVERLOADED, 0}},
+        {{0, 0, HIGHEST}, {METER_OVERLOADED, P - 2}},
+        {{0, 0, HIGHEST}, {METER_OVERLOADED, P}},
+        {{5, 5, 5}, {METER_DEAD, 1}},
+        {{KEPT, 0, 0}, {METER_STANDING, 1}},
+        {{KEPT, 0, 0}, {METER_UNSEEN, 0}},
+        {{KEPT, 0, 0}, {METER_WITHDRAWN, 0}},
+        {{KEPT, 0, 0}, {METER_WITHDRAWN + 1, 0}},
+        {{KEPT, 0, 0}, {METER_VERDICT_DIFFERS, 0}},
+        {{KEPT, 0, 0}, {9, 9}},
+        {{KEPT, 0, 0}, {UINT32_MAX, 0}},
+    };
+    for (size_t i = 0; i < sizeof wrong / sizeof *wrong; i++)
+        file("23 before the verdict", 0, 2, whole(wrong[i].y[0], wrong[i].y[1], wrong[i].y[2]), wrong[i].pair);
+}
+
+static void files(void) {
+    file("10 before 5", 0, 0, cut(KEPT, 0), kept);
+    file("5 before 7", 0, 2, cut(BEYOND, 0), kept);
+    file("7 before 11", 1, 1, whole(BEYOND, 0, 0), kept);
+    file("11 before 23", 1, 1, whole(KEPT, 0, 0), dead);
+    file("11 before 23", 1, 1, whole(5, 5, 5), kept);
+    file("23 before 12", 1, 2, whole(KEPT, 0, 0), dead);
+    file("23 before 12", 1, 2, whole(KEPT, 0, 0), (struct pair){METER_STANDING, 1});
+    wrong_verdicts();
+    file("12 alone", 1, 2, whole(KEPT, 0, 0), kept);
+    file("the verdict before 12", 1, 2, whole(HIGHEST, 0, 0), overloaded(0));
+    file("the verdict before 12", 1, 2, whole(5, 5, 5), dead);
+    file("shown", 0, 2, whole(KEPT, 0, 0), kept);
+    file("shown", 0, 2, whole(0, 0, HIGHEST), overloaded(P - 1));
+    file("shown", 0, 2, whole(5, -2, -2), dead);
+}
+
+/* Of two periods the last place is 2 * P - 1; one who counts the run-in says 3 * P - 1. */
+static void file_captures(void) {
+    file_capture("10 before 18", 0, 0, 0, plain(P), kept);
+    file_capture("18 before 5", 0, 2, MOST_PERIODS + 1, plain(2 * P), kept);
+    file_capture("5 before 7", 0, 2, 1, beyond(P), kept);
+    file_capture("7 before 11", 1, 1, 1, beyond(2 * P), kept);
+    file_capture("11 before 23", 1, 1, 1, one(KEPT, 0, 0), dead);
+    file_capture("23 before 12", 1, 2, 2, two(KEPT, 0, 0), dead);
+    file_capture("23 before the verdict", 0, 2, 2, two(0, 0, HIGHEST), overloaded(3 * P - 1));
+    file_capture("23 before the verdict", 0, 2, 1, one(KEPT, 0, 0), overloaded(0));
+    file_capture("12 alone", 1, 2, 1, one(KEPT, 0, 0), kept);
+    file_capture("shown", 0, 2, 2, two(0, 0, HIGHEST), overloaded(2 * P - 1));
+    file_capture("shown", 0, 2, 1, one(KEPT, 0, 0), kept);
+    file_capture("shown", 0, 2, 1, one(5, -2, -2), dead);
+}
+
+/* ---- a record that does not hold together, and what is asked of one that does ---- */
+
+/* Every call that names a day, on day 0; the verdicts handed in are wrong too. */
 static void before_10(enum damage damage) {
     const int32_t y[P] = {KEPT, 0, 0};
     int32_t several[MOST];
@@ -327,6 +491,8 @@ static void before_10(enum damage damage) {
     begin(damage, stands(damage));
     entry_line("enter", "15 before 10", entered(0, y, P));
     entry_line("capture", "15 before 10", captured(0, 1, several, 2 * P));
+    entry_line("file", "15 before 10", filed(0, y, P, dead));
+    entry_line("file capture", "15 before 10", filed_capture(0, 1, several, 2 * P, dead));
     line("withdraw", "15 before 10", meter_withdraw(RECORD, 0));
 }
 
@@ -352,6 +518,9 @@ int main(void) {
     enters();
     refused_captures();
     judged_captures();
+    judges();
+    files();
+    file_captures();
     for (enum damage damage = SUM; damage < DAMAGES; damage++) {
         before_10(damage);
         asks(damage, "15 before 6", "15 before 6");

@@ -324,6 +324,55 @@ static void draw_capture(int32_t *y, size_t n, size_t p) {
     draw_counting(y + p, n - p, p);
 }
 
+/* A night of one period or a capture of m, its n samples in a list of its own. */
+struct night {
+    int is_capture;
+    uint32_t m;
+    size_t n;
+    int32_t *y;
+};
+
+/* Of one period, one in fifteen a sample too short or too long. */
+static struct night drawn_night(int is_capture, size_t p) {
+    uint32_t m = is_capture ? any_periods() : 1;
+    size_t n = is_capture ? drawn_length(m, p) : below(15) == 0 ? p - 1 + 2 * below(2) : p;
+    /* One place more, so that the list of no samples has a pointer too. */
+    FILLED(int32_t, y, n + 1);
+    if (is_capture)
+        draw_capture(y, n, p);
+    else
+        draw_samples(y, n);
+    return (struct night){is_capture, m, n, y};
+}
+
+static const char *kind_word(const struct night *night) {
+    return night->is_capture ? " capture" : "";
+}
+
+/* The two numbers of a verdict, 9 and 9 where judging was refused. */
+struct pair {
+    uint32_t shown;
+    size_t place;
+};
+
+static struct pair judged(uint32_t order, uint32_t taps, const struct night *night) {
+    uint32_t state = 9, period = UNWRITTEN, answer;
+    size_t value = 9;
+    if (night->is_capture)
+        answer = meter_judge_capture(order, taps, night->m, night->y, night->n, &state, &value, &period);
+    else
+        answer = meter_judge(order, taps, night->y, night->n, &state, &value, &period);
+    printf("%" PRIu64 " judge%s %u %u %zu %u\n", number, kind_word(night), answer, state, value, period);
+    return (struct pair){state, value};
+}
+
+static void judge_case(void) {
+    uint32_t order = any_order(), taps = any_taps(order);
+    struct night night = drawn_night(below(2) == 1, period_of(order));
+    judged(order, taps, &night);
+    free(night.y);
+}
+
 /* ---- a campaign: its start, and a run of calls on what that left, some on a damaged record ---- */
 
 struct held {
@@ -422,24 +471,53 @@ static void mend(struct held *c, const struct damage *d) {
 
 static uint32_t enter_call(struct held *c) {
     uint32_t day = any_day(), state = 9;
-    size_t p = period_of(c->order), n = below(15) == 0 ? p - 1 + 2 * below(2) : p, value = 9;
-    FILLED(int32_t, y, n);
-    draw_samples(y, n);
-    uint32_t answer = meter_enter(RECORD, day, y, n, &state, &value);
+    size_t value = 9;
+    struct night night = drawn_night(0, period_of(c->order));
+    uint32_t answer = meter_enter(RECORD, day, night.y, night.n, &state, &value);
     printf("%" PRIu64 " enter %u %u %zu " MEMORY_PRINTED, number, answer, state, value, MEMORY);
-    free(y);
+    free(night.y);
     return answer;
 }
 
 static uint32_t capture_call(struct held *c) {
-    uint32_t day = any_day(), m = any_periods(), state = 9;
-    size_t p = period_of(c->order), n = drawn_length(m, p), value = 9;
-    /* One place more, so that the list of no samples has a pointer too. */
-    FILLED(int32_t, y, n + 1);
-    draw_capture(y, n, p);
-    uint32_t answer = meter_capture(RECORD, day, m, y, n, &state, &value);
+    uint32_t day = any_day(), state = 9;
+    size_t value = 9;
+    struct night night = drawn_night(1, period_of(c->order));
+    uint32_t answer = meter_capture(RECORD, day, night.m, night.y, night.n, &state, &value);
     printf("%" PRIu64 " capture %u %u %zu " MEMORY_PRINTED, number, answer, state, value, MEMORY);
-    free(y);
+    free(night.y);
+    return answer;
+}
+
+/* Numbers of states that a pair is drawn from: the five there are, and one that is none. */
+enum { STATES_DRAWN = METER_WITHDRAWN + 2 };
+
+/* Every second pair is what judging said; of the others the state, the place or both are drawn, or the place is the next. */
+static struct pair handed(struct pair said, size_t p) {
+    switch (below(8)) {
+    case 4: said.shown = (uint32_t)below(STATES_DRAWN); break;
+    case 5: said.place++; break;
+    case 6:
+        said.shown = (uint32_t)below(STATES_DRAWN);
+        said.place = below(p);
+        break;
+    case 7: said.place = below(p); break;
+    }
+    return said;
+}
+
+/* The night is judged, and filed with what judging said or with another pair. */
+static uint32_t file_call(struct held *c, int is_capture) {
+    uint32_t day = any_day(), state = 9, answer;
+    size_t p = period_of(c->order), value = 9;
+    struct night night = drawn_night(is_capture, p);
+    struct pair pair = handed(judged(c->order, c->taps, &night), p);
+    if (is_capture)
+        answer = meter_file_capture(RECORD, day, night.m, night.y, night.n, pair.shown, pair.place, &state, &value);
+    else
+        answer = meter_file(RECORD, day, night.y, night.n, pair.shown, pair.place, &state, &value);
+    printf("%" PRIu64 " file%s %u %u %zu " MEMORY_PRINTED, number, kind_word(&night), answer, state, value, MEMORY);
+    free(night.y);
     return answer;
 }
 
@@ -490,6 +568,8 @@ static uint32_t campaign_call(struct held *c, uint64_t what) {
         return capture_call(c);
     if (what < 10)
         return withdraw_call(c);
+    if (what > 12)
+        return file_call(c, what > 15);
     return what == 10 ? counts_call(c) : asked_call(c, what == 12);
 }
 
@@ -533,7 +613,7 @@ static void campaign_case(void) {
     printf("%" PRIu64 " start %u %u " MEMORY_PRINTED, number, started, period, MEMORY);
     /* Where the start was refused the record is none, and every call is refused alike. */
     for (uint64_t steps = 2 + below(started == 0 && order < LONG_ORDER ? 15 : 4); steps > 0; steps--) {
-        uint64_t what = below(13);
+        uint64_t what = below(19);
         struct damage d = damaged(c);
         if (campaign_call(c, what) == 15)
             mend(c, &d);
@@ -549,11 +629,11 @@ int main(int words, char **word) {
     if (words != 3)
         return fprintf(stderr, "usage: random SEED COUNT\n"), 2;
     uint64_t seed = strtoull(word[1], NULL, 10), count = strtoull(word[2], NULL, 10);
-    static void (*const cases[9])(void) = {taps_case, sequence_case, player_case, recording_case, predict_case, predict_in_room_case,
-                                           campaign_case, campaign_case, campaign_case};
+    static void (*const cases[10])(void) = {taps_case, sequence_case, player_case, recording_case, predict_case, predict_in_room_case,
+                                            campaign_case, campaign_case, campaign_case, judge_case};
     for (number = 0; number < count; number++) {
         stream = mix(seed ^ mix(number + 1));
-        cases[below(9)]();
+        cases[below(10)]();
     }
     return 0;
 }

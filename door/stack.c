@@ -1,6 +1,6 @@
-/* The stack that a prediction takes, held to what meter.h says, and the stack of each call on a campaign, held to what docs/TRUST.md says. Each call is
- * made on a stack of its own that was painted before, and what is no longer paint was used. Prints the most that each kind of call took, and fails where
- * that is more than was said. */
+/* The stack that a prediction and a judgement take, held to what meter.h says, and that of each call on a campaign, held to what docs/TRUST.md says.
+ * Each call is made on a stack of its own that was painted before, and what is no longer paint was used. Prints the most that each kind of call took, and
+ * fails where that is more than was said. */
 #define _XOPEN_SOURCE 700
 #include "meter.h"
 #include <stdio.h>
@@ -10,8 +10,8 @@
 
 enum { PAINT = 0xa5, STACK = 1 << 20, SHORT_ORDERS = 12, ORDERS = 16, MOST_P = 65535, MOST_M = 16 };
 
-/* What meter.h says of a prediction and docs/TRUST.md of a campaign, in bytes. */
-enum { REFUSED = 1024, SHORT = 40 * 1024, LONG = 520 * 1024, IN_ROOM = 2048, CAMPAIGN = 16 * 1024 };
+/* What meter.h says of a prediction and a judgement and docs/TRUST.md of a campaign, in bytes. */
+enum { REFUSED = 1024, SHORT = 40 * 1024, LONG = 520 * 1024, IN_ROOM = 2048, JUDGED = 1024, CAMPAIGN = 16 * 1024 };
 
 static unsigned char stack[STACK];
 static ucontext_t here, there;
@@ -111,14 +111,44 @@ static void hold(const char *what, size_t bytes, size_t most) {
     }
 }
 
+/* ---- a night, of one period or a capture of m, and what is told of it ---- */
+
+static int32_t night[(MOST_M + 1) * MOST_P];
+static uint32_t m, state;
+static size_t p, value;
+
+static void lay(uint32_t of_m, int dead) {
+    m = of_m;
+    for (size_t j = 0; j < (MOST_M + 1) * p; j++)
+        night[j] = dead ? 0 : (int32_t)(j * 7919 % 20011) - 10000;
+}
+
+static uint32_t judge(void) { return meter_judge(call.order, call.taps, night, p, &state, &value, &period); }
+static uint32_t judge_capture(void) { return meter_judge_capture(call.order, call.taps, m, night, (m + 1) * p, &state, &value, &period); }
+
+/* The most at every order, of nights that are dead or kept, and of taps that are refused with 4. */
+static size_t judged(uint32_t (*by)(void)) {
+    size_t most = 0;
+    for (uint32_t order = 2; order <= ORDERS; order++) {
+        set(order, 0);
+        p = call.h_len;
+        for (int dead = 0; dead < 2; dead++) {
+            lay(MOST_M, dead);
+            most = larger(most, taken(by, METER_ACCEPTED));
+        }
+        call.taps = 1;
+        most = larger(most, taken(by, METER_NOT_MAXIMAL));
+    }
+    return most;
+}
+
 /* ---- a campaign of one slot ---- */
 
 static uint8_t days[METER_DAYS], periods[METER_SLOTS];
 static uint16_t slots[METER_SLOTS], tags[MOST_P];
-static int32_t night[(MOST_M + 1) * MOST_P], store[MOST_P], mean[MOST_P];
+static int32_t store[MOST_P], mean[MOST_P];
 static int64_t sums[MOST_P], r[MOST_P];
-static uint32_t m, state, numbers[5];
-static size_t p, value;
+static uint32_t shown, numbers[5];
 static double levels[3];
 
 #define RECORD call.order, call.taps, 1, days, METER_DAYS, slots, METER_SLOTS, periods, METER_SLOTS, store, p, sums, p
@@ -127,6 +157,8 @@ static double levels[3];
 static uint32_t start(void) { return meter_start(RECORD, &period); }
 static uint32_t enter(void) { return meter_enter(RECORD, 1, night, p, &state, &value); }
 static uint32_t capture(void) { return meter_capture(RECORD, 1, m, night, (m + 1) * p, &state, &value); }
+static uint32_t file(void) { return meter_file(RECORD, 1, night, p, shown, 0, &state, &value); }
+static uint32_t file_capture(void) { return meter_file_capture(RECORD, 1, m, night, (m + 1) * p, shown, 0, &state, &value); }
 static uint32_t withdraw(void) { return meter_withdraw(RECORD, 1); }
 static uint32_t counts(void) { return meter_counts(RECORD, &numbers[0], &numbers[1], &numbers[2], &numbers[3], &numbers[4]); }
 static uint32_t response(void) { return meter_response(RECORD, r, p, mean, p, ROOM); }
@@ -138,6 +170,9 @@ static const struct { const char *name; uint32_t (*by)(void); uint32_t m; int de
     {"meter_counts", counts, 0, 0}, {"meter_response", response, 0, 0}, {"meter_summary", summary, 0, 0}, {"meter_withdraw", withdraw, 0, 0},
     {"meter_capture", capture, MOST_M, 1}, {"meter_capture", capture, 1, 0}, {"meter_withdraw", withdraw, 0, 0}, {"meter_capture", capture, MOST_M, 0},
     {"meter_counts", counts, 0, 0}, {"meter_response", response, 0, 0}, {"meter_summary", summary, 0, 0}, {"meter_withdraw", withdraw, 0, 0},
+    {"meter_file", file, 0, 1}, {"meter_file", file, 0, 0}, {"meter_withdraw", withdraw, 0, 0},
+    {"meter_file_capture", file_capture, MOST_M, 1}, {"meter_file_capture", file_capture, 1, 0}, {"meter_withdraw", withdraw, 0, 0},
+    {"meter_file_capture", file_capture, MOST_M, 0},
 };
 enum { CALLS = sizeof calls / sizeof *calls };
 
@@ -148,9 +183,8 @@ static void campaign(uint32_t order) {
     set(order, 0);
     p = call.h_len;
     for (size_t i = 0; i < CALLS; i++) {
-        m = calls[i].m;
-        for (size_t j = 0; j < (MOST_M + 1) * p; j++)
-            night[j] = calls[i].dead ? 0 : (int32_t)(j * 7919 % 20011) - 10000;
+        lay(calls[i].m, calls[i].dead);
+        shown = calls[i].dead ? METER_DEAD : METER_STANDING;
         took[i] = larger(took[i], taken(calls[i].by, METER_ACCEPTED));
     }
 }
@@ -189,6 +223,8 @@ int main(void) {
     hold("meter_predict up to order 12", few, SHORT);
     hold("meter_predict from order 13", many, LONG);
     hold("meter_predict_in_room", lent, IN_ROOM);
+    hold("meter_judge", judged(judge), JUDGED);
+    hold("meter_judge_capture", judged(judge_capture), JUDGED);
     campaigns();
     return wrong;
 }

@@ -1,5 +1,5 @@
-/* A campaign of order 3 with 2 slots, from C: its taps are mistyped once, four nights are entered, one of them a capture of two periods, and the mean of
- * those that stand is printed. */
+/* A campaign of order 3 with 2 slots, from C: its taps are mistyped once, four nights are judged, shown and then filed, one of them a capture of two
+ * periods, and the mean of those that stand is printed. */
 #include "meter.h"
 #include <inttypes.h>
 #include <stdio.h>
@@ -25,23 +25,32 @@ static uint32_t start(uint32_t taps) {
     return answer;
 }
 
-static void tell(uint32_t day, uint32_t answer, uint32_t state) {
+/* The operator sees the verdict here, before anything is kept. */
+static void show(uint32_t day, uint32_t answer, uint32_t shown) {
     static const char *const verdicts[] = {"", "kept", "overloaded", "dead"};
-    printf("day %" PRIu32 ": %s\n", day, answer != METER_ACCEPTED ? meter_explain(answer) : verdicts[state]);
+    printf("day %" PRIu32 " judged: %s\n", day, answer != METER_ACCEPTED ? meter_explain(answer) : verdicts[shown]);
 }
 
-static void enter(uint32_t day, const int32_t *y) {
-    uint32_t state = METER_UNSEEN;
-    size_t value = 0;
-    uint32_t answer = meter_enter(CAMPAIGN, day, y, P, &state, &value);
-    tell(day, answer, state);
+static void tell(uint32_t day, uint32_t answer) {
+    printf("day %" PRIu32 " filed: %s\n", day, meter_explain(answer));
+}
+
+static void night(uint32_t day, const int32_t *y) {
+    uint32_t shown = METER_UNSEEN, state = METER_UNSEEN, period = 0;
+    size_t place = 0, value = 0;
+    uint32_t answer = meter_judge(ORDER, TAPS, y, P, &shown, &place, &period);
+    show(day, answer, shown);
+    if (answer == METER_ACCEPTED)
+        tell(day, meter_file(CAMPAIGN, day, y, P, shown, place, &state, &value));
 }
 
 static void capture(uint32_t day, const int32_t *y) {
-    uint32_t state = METER_UNSEEN;
-    size_t value = 0;
-    uint32_t answer = meter_capture(CAMPAIGN, day, PERIODS, y, (PERIODS + 1) * P, &state, &value);
-    tell(day, answer, state);
+    uint32_t shown = METER_UNSEEN, state = METER_UNSEEN, period = 0;
+    size_t place = 0, value = 0, n = (PERIODS + 1) * P;
+    uint32_t answer = meter_judge_capture(ORDER, TAPS, PERIODS, y, n, &shown, &place, &period);
+    show(day, answer, shown);
+    if (answer == METER_ACCEPTED)
+        tell(day, meter_file_capture(CAMPAIGN, day, PERIODS, y, n, shown, place, &state, &value));
 }
 
 int main(void) {
@@ -58,10 +67,10 @@ int main(void) {
     start(MISTYPED);
     uint32_t answer = start(TAPS);
     if (answer == METER_ACCEPTED) {
-        enter(1, heard);
-        enter(2, unplugged);
+        night(1, heard);
+        night(2, unplugged);
         capture(3, thrice);
-        enter(367, heard);
+        night(367, heard);
         answer = meter_response(CAMPAIGN, r, P, mean, P, room, P + 1, tags, P);
     }
     if (answer != METER_ACCEPTED) {

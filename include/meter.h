@@ -45,7 +45,8 @@ enum {
     METER_RECORD_BROKEN = 15,
     METER_WINDOW_OUT_OF_RANGE = 16,
     METER_BEYOND_THE_PROGRAM = 17,
-    METER_PERIODS_OUT_OF_RANGE = 18
+    METER_PERIODS_OUT_OF_RANGE = 18,
+    METER_VERDICT_DIFFERS = 23
 };
 
 /* An answer in words. It is made of this header alone: the library has no such function. */
@@ -70,6 +71,7 @@ static inline const char *meter_explain(uint32_t n) {
     case METER_WINDOW_OUT_OF_RANGE: return "player's window zero or not below 2^N";
     case METER_BEYOND_THE_PROGRAM: return "the program only: order above 9, slots above 8, or 5 to 16 periods";
     case METER_PERIODS_OUT_OF_RANGE: return "periods not 1 to 16";
+    case METER_VERDICT_DIFFERS: return "verdict handed in is not what judging gives";
     default: return "unknown";
     }
 }
@@ -114,6 +116,20 @@ uint32_t meter_predict(uint32_t order, uint32_t taps, const int32_t *h, size_t h
 uint32_t meter_predict_in_room(uint32_t order, uint32_t taps, const int32_t *h, size_t h_len, int32_t *out, size_t out_len,
                                int64_t *room, size_t room_len, uint32_t *period);
 
+/* ---- a night judged: no record, no day, nothing is written but the answer, and at most 1 KB of stack is taken ---- */
+
+/* The verdict on a night of one period, P samples, before anything is kept: 1, 2, 3, 4, 5, 7. Overloaded: some sample is -8388608 or 8388607, the rails.
+ * Otherwise dead: its largest sample minus its smallest is 7 or less. Otherwise it is kept. `state` is the state that the verdict would give a day,
+ * METER_STANDING of one that is kept, and `value` the first place at a rail of one that is overloaded, 0 of the other two: which slot a night takes is
+ * known only when it is filed. Refused, both stay as they were. */
+uint32_t meter_judge(uint32_t order, uint32_t taps, const int32_t *y, size_t y_len,
+                     uint32_t *state, size_t *value, uint32_t *period);
+
+/* The same of a capture of m+1 periods, (m+1) * P samples, m from 1 to 16: 1, 2, 3, 4, 18, 5, 7. The first period is the run-in and is dropped; the other
+ * m are judged as one recording, whose places count from 0. */
+uint32_t meter_judge_capture(uint32_t order, uint32_t taps, uint32_t m, const int32_t *y, size_t y_len,
+                             uint32_t *state, size_t *value, uint32_t *period);
+
 /* ---- a campaign: the record is order, taps and capacity, which no call changes, and the three tables `days` (366), `slots` (64) and `periods` (64).
  * A used slot's entry of `periods` is how many periods its night had, 1 to 16; every other entry is 0. A shorter table is room too short at a start, 6
  * in its place; every other call refuses it with 15 before all else. The store is capacity * P samples, the sums P wide numbers. ---- */
@@ -124,20 +140,36 @@ uint32_t meter_start(uint32_t order, uint32_t taps, uint32_t capacity, uint8_t *
                      int32_t *store, size_t store_len, int64_t *sums, size_t sums_len,
                      uint32_t *period);
 
-/* A day's recording of one period, P samples, judged: 15, 10, 5, 7, 11, and 12 after the verdict. Overloaded: some sample is -8388608 or 8388607, the rails. Otherwise dead: its
- * largest sample minus its smallest is 7 or less. Otherwise it is kept. `state` is the state that the verdict gives the day, and `value` the slot of
- * one that stands, the first place at a rail of one that is overloaded, 0 of one that is dead. */
+/* A day's night of one period, P samples, judged and filed in one call, which is a filing with the verdict that judging gives: 15, 10, 5, 7, 11, and 12
+ * after the verdict. `state` is the state that the verdict gives the day, and `value` the slot of one that stands, the first place at a rail of one that
+ * is overloaded, 0 of one that is dead. */
 uint32_t meter_enter(uint32_t order, uint32_t taps, uint32_t capacity, uint8_t *days, size_t days_len,
                      uint16_t *slots, size_t slots_len, uint8_t *periods, size_t periods_len,
                      int32_t *store, size_t store_len, int64_t *sums, size_t sums_len,
                      uint32_t day, const int32_t *y, size_t y_len, uint32_t *state, size_t *value);
 
-/* A day's capture of m+1 periods, (m+1) * P samples, m from 1 to 16: 15, 10, 18, 5, 7, 11, and 12 after the verdict. The first period is the run-in and
- * is dropped; the other m are judged as one recording, whose places count from 0, and kept they are summed place by place. */
+/* The same of a day's capture of m+1 periods, (m+1) * P samples, m from 1 to 16, which is a filing with the verdict that judging gives too: 15, 10, 18, 5,
+ * 7, 11, and 12 after the verdict. The run-in is dropped; the other m periods, where they are kept, are summed place by place. */
 uint32_t meter_capture(uint32_t order, uint32_t taps, uint32_t capacity, uint8_t *days, size_t days_len,
                        uint16_t *slots, size_t slots_len, uint8_t *periods, size_t periods_len,
                        int32_t *store, size_t store_len, int64_t *sums, size_t sums_len,
                        uint32_t day, uint32_t m, const int32_t *y, size_t y_len, uint32_t *state, size_t *value);
+
+/* A day's night of one period filed with the verdict that was shown of it: 15, 10, 5, 7, 11, 23, and 12 after the verdict. `shown` and `place` are the
+ * `state` and the `value` that meter_judge wrote: METER_STANDING and 0, METER_OVERLOADED and a place, or METER_DEAD and 0. Where judging gives another
+ * pair for this night, or the pair is none of these, it is 23. Accepted, it does all that meter_enter does. */
+uint32_t meter_file(uint32_t order, uint32_t taps, uint32_t capacity, uint8_t *days, size_t days_len,
+                    uint16_t *slots, size_t slots_len, uint8_t *periods, size_t periods_len,
+                    int32_t *store, size_t store_len, int64_t *sums, size_t sums_len,
+                    uint32_t day, const int32_t *y, size_t y_len, uint32_t shown, size_t place, uint32_t *state, size_t *value);
+
+/* The same of a day's capture, with the verdict that meter_judge_capture gave: 15, 10, 18, 5, 7, 11, 23, and 12 after the verdict. Accepted, it does all
+ * that meter_capture does. */
+uint32_t meter_file_capture(uint32_t order, uint32_t taps, uint32_t capacity, uint8_t *days, size_t days_len,
+                            uint16_t *slots, size_t slots_len, uint8_t *periods, size_t periods_len,
+                            int32_t *store, size_t store_len, int64_t *sums, size_t sums_len,
+                            uint32_t day, uint32_t m, const int32_t *y, size_t y_len, uint32_t shown, size_t place,
+                            uint32_t *state, size_t *value);
 
 /* A standing day withdrawn: 15, 10, 13. */
 uint32_t meter_withdraw(uint32_t order, uint32_t taps, uint32_t capacity, uint8_t *days, size_t days_len,

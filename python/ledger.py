@@ -6,7 +6,7 @@ It calls nothing of the core. `meter.Campaign` keeps a ledger of the calls made 
 from typing import NamedTuple, Optional
 
 STATES = ("unseen", "standing", "overloaded", "dead", "withdrawn")
-NOT_MAXIMAL, BEYOND_THE_PROGRAM, PERIODS_OUT_OF_RANGE = 4, 17, 18
+NOT_MAXIMAL, BEYOND_THE_PROGRAM, PERIODS_OUT_OF_RANGE, VERDICT_DIFFERS = 4, 17, 18, 23
 
 # Document 01, "Refusal numbers", and those that the requests of document 02 add.
 CAUSES = {
@@ -28,6 +28,7 @@ CAUSES = {
     16: "player's window zero or not below 2^N",
     BEYOND_THE_PROGRAM: "the program only: order above 9, slots above 8, or 5 to 16 periods",
     PERIODS_OUT_OF_RANGE: "periods not 1 to 16",
+    VERDICT_DIFFERS: "verdict handed in is not what judging gives",
 }
 
 
@@ -49,10 +50,10 @@ def how_short(period, length):
     return f"it returns after {period} {'step' if period == 1 else 'steps'} of {length}"
 
 
-def details(length, given, capacity=None, periods=None):
-    """The numbers at hand of a recording given where P samples are wanted, or of a capture of so many periods where (m+1)*P are, by the refusal
-    whose words leave them unsaid."""
-    said = {5: f"P is {length}, {given} given", 12: f"C is {capacity}"}
+def details(length, given, capacity=None, periods=None, shown=None):
+    """The numbers at hand of a recording given where P samples are wanted, or of a capture of so many periods where (m+1)*P are, and the verdict shown
+    where one was handed in, by the refusal whose words leave them unsaid."""
+    said = {5: f"P is {length}, {given} given", 12: f"C is {capacity}", VERDICT_DIFFERS: f"{shown} was handed in"}
     if periods is None:
         return said
     asked = f"m is {periods}"
@@ -60,7 +61,8 @@ def details(length, given, capacity=None, periods=None):
 
 
 class Note(NamedTuple):
-    """A call that named a day, "enter" or "withdraw": the state that it gave the day, None where it gave none, and that in words."""
+    """A call that named a day, "enter", which is what a filing is noted as too, or "withdraw": the state that it gave the day, None where it gave none,
+    and that in words."""
 
     call: str
     day: int

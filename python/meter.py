@@ -7,7 +7,8 @@ The shared object is linked from that archive at the first import, by `cc`; METE
 from -8388608 to 8388607; any sequence of them will do. A refused call raises `Refused`, with document 01's number, and changes nothing; taps that
 are not maximal are refused with the number of steps after which their register returns. `explain` has every answer in words.
 A `Campaign` notes its refused calls in a ledger, and `not_in_mean()` says which nights are missing and why. A night is one period, or with `periods=m` a
-capture: a run-in of one period, which is dropped, and m that are summed.
+capture: a run-in of one period, which is dropped, and m that are summed. `judge` says what a night's verdict would be and keeps nothing; `Campaign.file`
+takes the night with that verdict, and `Campaign.enter` does both in one call.
 """
 
 import contextlib
@@ -43,6 +44,17 @@ class Verdict(NamedTuple):
 
     state: str
     value: int
+
+
+class Judged(NamedTuple):
+    """What judging says of a night before anything is kept: "kept", which has no slot yet, "overloaded" with the first place at a rail, counted behind the
+    run-in, or "dead". Only one that is overloaded has a place."""
+
+    verdict: str
+    place: Optional[int] = None
+
+    def __str__(self):
+        return f"{self.verdict}" if self.place is None else f"{self.verdict} at sample {self.place}"
 
 
 class Levels(NamedTuple):
@@ -98,9 +110,13 @@ for _name, _kinds in {
     "player_play": (*[_P(_u32)] * 4, [ctypes.c_int8]),
     "recording": (_u32, _u32, [_i32], [ctypes.c_int64], *_ROOM, _PERIOD),
     "predict": (_u32, _u32, [_i32], [_i32], _PERIOD),
+    "judge": (_u32, _u32, [_i32], _P(_u32), _P(_size), _PERIOD),
+    "judge_capture": (_u32, _u32, _u32, [_i32], _P(_u32), _P(_size), _PERIOD),
     "start": (*_RECORD, _PERIOD),
     "enter": (*_RECORD, _u32, [_i32], _P(_u32), _P(_size)),
     "capture": (*_RECORD, _u32, _u32, [_i32], _P(_u32), _P(_size)),
+    "file": (*_RECORD, _u32, [_i32], _u32, _size, _P(_u32), _P(_size)),
+    "file_capture": (*_RECORD, _u32, _u32, [_i32], _u32, _size, _P(_u32), _P(_size)),
     "withdraw": (*_RECORD, _u32),
     "counts": (*_RECORD, *[_P(_u32)] * 5),
     "response": (*_RECORD, [ctypes.c_int64], [_i32], *_ROOM),
@@ -166,6 +182,26 @@ def _samples(values, name):
         raise TypeError(f"{name} must be a sequence of whole numbers, not {type(values).__name__}") from None
     values = list(each)
     return (_i32 * len(values))(*(max(-(2**31), min(_whole(v, "a sample of " + name), 2**31 - 1)) for v in values))
+
+
+def _periods(periods):
+    """How many periods a capture is said to have, as it was given and as C takes it; of a night of one period None and nothing."""
+    return (None, ()) if periods is None else (_whole(periods, "periods"), (_number(periods, "periods"),))
+
+
+# The words of judging, each at the number of the state that the verdict would give a day; none leaves a day unseen.
+_JUDGED = (None, "kept", "overloaded", "dead")
+
+
+def _pair(verdict):
+    """The two numbers of a judged verdict. One made up by hand that judging never gives is a pair that says none, which C refuses with 23."""
+    if not isinstance(verdict, Judged):
+        raise TypeError(f"verdict must be what judge() answers, not {type(verdict).__name__}")
+    if verdict.verdict == "overloaded":
+        place = _whole(verdict.place, "the place of an overloaded verdict")
+        return _JUDGED.index("overloaded"), place if 0 <= place < 2**64 else 2**64 - 1
+    said = verdict.verdict if verdict.place is None and verdict.verdict in _JUDGED else None
+    return _JUDGED.index(said), 0
 
 
 def _register(order, taps):
@@ -255,11 +291,25 @@ def predict(h, order, taps=None):
     return list(out)
 
 
+# ---- a night judged
+
+
+def judge(order, taps, samples, periods=None):
+    """What the verdict on a night is, before anything is kept: a recording of P samples, or a capture of so many periods behind a run-in, (periods+1)*P
+    samples. It wants no campaign and no day, and writes nothing. Where `taps` is None the order's default ones are taken."""
+    (order, taps), y, state, value = _register(order, taps), _samples(samples, "samples"), _u32(), _size()
+    asked, m = _periods(periods)
+    told = details(_length(order), len(y), periods=asked)
+    _call_maximal("judge_capture" if m else "judge", order, taps, *m, y, state, value, told=told)
+    word = _JUDGED[state.value]
+    return Judged(word, value.value if word == "overloaded" else None)
+
+
 # ---- a campaign
 
 
 class Campaign:
-    """A year of nights: each recording is judged, and what is kept is averaged. Every call that names a day is noted in `ledger`."""
+    """A year of nights: each is judged, and what is kept is averaged. Every call that names a day is noted in `ledger`."""
 
     def __init__(self, order, taps=None, capacity=SLOTS):
         self._numbers = (*_register(order, taps), _number(capacity, "capacity"))
@@ -289,13 +339,24 @@ class Campaign:
             raise
 
     def enter(self, day, y, periods=None):
-        """The verdict on a day's night, 1 to 366: a recording of P samples, or a capture of so many periods behind a run-in, (periods+1)*P samples."""
+        """The verdict on a day's night, 1 to 366: a recording of P samples, or a capture of so many periods behind a run-in, (periods+1)*P samples. It is
+        judged and filed in one call."""
+        return self._filed(day, y, "y", periods)
+
+    def file(self, day, samples, verdict, periods=None):
+        """A day's night filed with the verdict that `judge` gave for it, and what `enter` answers. A verdict that is not what judging gives for this
+        night is refused with 23."""
+        return self._filed(day, samples, "samples", periods, verdict)
+
+    def _filed(self, day, samples, name, periods, *shown):
+        """The verdict on a night that is filed with the verdict shown of it, or entered where none was; the name is that of the samples."""
         day, state, value = _whole(day, "day"), _u32(), _size()
         with self._noting("enter", day):
-            y = _samples(y, "y")
-            told = details(_length(self.order), len(y), self._numbers[2], None if periods is None else _whole(periods, "periods"))
-            named = (_number(day, "day"),) if periods is None else (_number(day, "day"), _number(periods, "periods"))
-            _call("enter" if periods is None else "capture", *self._record(), *named, y, state, value, told=told)
+            y, (asked, m) = _samples(samples, name), _periods(periods)
+            pair = [number for verdict in shown for number in _pair(verdict)]
+            told = details(_length(self.order), len(y), self._numbers[2], asked, *shown)
+            call = ("file_capture" if m else "file") if shown else ("capture" if m else "enter")
+            _call(call, *self._record(), _number(day, "day"), *m, y, *pair, state, value, told=told)
         verdict = Verdict(STATES[state.value], value.value)
         self.ledger.accepted("enter", day, verdict.state, verdict.value if verdict.state == "overloaded" else None)
         return verdict

@@ -1,5 +1,5 @@
-"""Tries every call of meter.py on document 01's numbers and on its order of checks, captures of several periods, the room that it lends, the periods of
-registers that it tells, the ledger of nights, and the example."""
+"""Tries every call of meter.py on document 01's numbers and on its order of checks, captures of several periods, nights judged and then filed, the room
+that it lends, the periods of registers that it tells, the ledger of nights, and the example."""
 import ctypes
 import os
 import pathlib
@@ -174,6 +174,152 @@ class Captures(Case):
         self.refused(15, c.summary)
 
 
+# A night that is kept, one that is dead and one at a rail, each with what judging says of it.
+JUDGED = [(NIGHT, ("kept", None)), (QUIET, ("dead", None)), (HIT, ("overloaded", 3))]
+
+
+class Judging(Case):
+    def test_what_judging_says(self):
+        for night, said in JUDGED:
+            self.assertEqual(meter.judge(3, 3, night), said)
+            self.assertEqual(meter.judge(3, None, night), said)
+            self.assertEqual(meter.judge(3, 3, tuple(night)), said)
+            for m in (1, 2, 16):
+                self.assertEqual(meter.judge(3, 3, RUN_IN + night * m, m), said)
+                self.assertEqual(meter.judge(3, 3, RUN_IN + QUIET * (m - 1) + night, periods=m).verdict, said[0])
+        self.assertEqual(meter.judge(3, 3, RUN_IN + NIGHT + HIT, 2), ("overloaded", 10))
+        self.assertEqual([str(meter.judge(3, 3, night)) for night, _ in JUDGED], ["kept", "dead", "overloaded at sample 3"])
+
+    def test_the_order_of_its_checks(self):
+        bad = [BEYOND] * 6
+        for number, order, taps, y, m in [
+            (1, 17, 2**17, bad, 0),
+            (1, 17, None, bad, None),
+            (2, 3, 8, bad, 0),
+            (3, 3, 2, bad, None),
+            (4, 3, 7, bad, 17),
+            (18, 3, 3, bad, 0),
+            (18, 3, 3, bad, 2**32 + 1),
+            (5, 3, 3, bad, 1),
+            (5, 3, 3, bad, None),
+            (7, 3, 3, NIGHT[:6] + [8388608], None),
+            (7, 3, 3, [-8388609] + RUN_IN[1:] + HIT, 1),
+        ]:
+            with self.assertRaises(meter.Refused) as met:
+                meter.judge(order, taps, y, m)
+            self.assertEqual((met.exception.number, met.exception.period), (number, 1 if number == 4 else None))
+
+    def test_a_refusal_in_words(self):
+        self.assertEqual(self.refused(4, meter.judge, 4, 15, NIGHT), "4: register not maximal: it returns after 5 steps of 15")
+        self.assertEqual(self.refused(18, meter.judge, 3, 3, NIGHT, 17), "18: periods not 1 to 16 (m is 17)")
+        length = "5: recording or response not exactly P long, capture not exactly (m+1)*P"
+        self.assertEqual(self.refused(5, meter.judge, 3, 3, NIGHT[:6]), f"{length} (P is 7, 6 given)")
+        self.assertEqual(self.refused(5, meter.judge, 3, 3, NIGHT, 2), f"{length} ((m+1)*P is 21, 7 given)")
+
+    def test_wrong_types(self):
+        for name, call in {
+            "order": lambda: meter.judge("3", 3, NIGHT),
+            "taps": lambda: meter.judge(3, 3.0, NIGHT),
+            "samples": lambda: meter.judge(3, 3, 5),
+            "a sample of samples": lambda: meter.judge(3, 3, NIGHT[:6] + [1.5]),
+            "periods": lambda: meter.judge(3, 3, NIGHT, "1"),
+        }.items():
+            with self.assertRaisesRegex(TypeError, f"^{name} must be ", msg=name):
+                call()
+
+
+def memory(campaign):
+    """Every number that a campaign lends."""
+    return [list(part) for part in campaign._tables + campaign._lent]
+
+
+class Filing(Case):
+    def test_judged_and_filed_is_entered(self):
+        for m in (None, 1, 3):
+            entered, filed = meter.Campaign(3, capacity=2), meter.Campaign(3, capacity=2)
+            for day, (night, _) in enumerate(JUDGED * 2, 1):
+                night = night if m is None else RUN_IN + night * m
+                before = memory(filed)
+                verdict = meter.judge(3, 3, night, m)
+                self.assertEqual(memory(filed), before)
+                self.assertEqual(filed.file(day, night, verdict, m), entered.enter(day, night, m))
+                self.assertEqual(memory(filed), memory(entered))
+            self.assertEqual((filed.counts(), filed.response()), (entered.counts(), entered.response()))
+            self.assertEqual(filed.ledger.notes, entered.ledger.notes)
+
+    def test_any_other_verdict_is_23_and_changes_nothing(self):
+        c = meter.Campaign(3, capacity=2)
+        c.enter(9, NIGHT)
+        before = memory(c)
+        verdicts = [("kept", None), ("dead", None), *(("overloaded", place) for place in [*range(9), 2**32 + 3, 2**64 + 3, 2**64, -1])]
+        made_up = [("kept", 0), ("dead", 3), ("standing", None), ("unseen", None), ("", None), (None, None), (1, None), ([], None)]
+        for night, said in JUDGED:
+            for pair in verdicts + made_up:
+                if pair != said:
+                    self.refused(23, c.file, 1, night, meter.Judged(*pair))
+                    self.refused(23, c.file, 1, RUN_IN + night, meter.Judged(*pair), 1)
+        self.assertEqual(memory(c), before)
+
+    def test_23_in_words(self):
+        c = meter.Campaign(3)
+        said = "23: verdict handed in is not what judging gives"
+        self.assertEqual(self.refused(23, c.file, 1, NIGHT, meter.judge(3, 3, QUIET)), f"{said} (dead was handed in)")
+        self.assertEqual(self.refused(23, c.file, 1, QUIET, meter.judge(3, 3, HIT)), f"{said} (overloaded at sample 3 was handed in)")
+        self.assertEqual(c.not_in_mean(), {1: f"refused {said} (overloaded at sample 3 was handed in)"})
+
+    def test_the_manual_has_what_is_shown_and_filed(self):
+        campaign, heard, unplugged = meter.Campaign(3), NIGHT, QUIET
+        verdict = meter.judge(3, 3, heard)
+        listing = [
+            ">>> verdict = meter.judge(3, 3, heard)",
+            ">>> print(verdict)",
+            str(verdict),
+            ">>> campaign.file(7, heard, verdict)",
+            repr(campaign.file(7, heard, verdict)),
+            ">>> campaign.file(8, unplugged, verdict)",
+            f"meter.Refused: {self.refused(23, campaign.file, 8, unplugged, verdict)}",
+        ]
+        self.assertIn("\n".join(["```", *listing, "```"]), (here.parent / "docs/MANUAL.md").read_text())
+
+    def test_the_order_of_its_checks(self):
+        kept, dead = meter.Judged("kept"), meter.Judged("dead")
+        c = meter.Campaign(3, capacity=1)
+        c.file(1, NIGHT, kept)
+        for number, day, y, verdict, m in [
+            (10, 367, NIGHT[:6], dead, 17),
+            (18, 1, NIGHT[:6], dead, 17),
+            (5, 1, [BEYOND] * 6, dead, None),
+            (7, 1, [BEYOND] * 7, dead, None),
+            (11, 1, NIGHT, dead, None),
+            (23, 2, NIGHT, dead, None),
+            (12, 2, NIGHT, kept, None),
+            (12, 2, RUN_IN + NIGHT, kept, 1),
+        ]:
+            self.refused(number, c.file, day, y, verdict, m)
+        self.assertEqual((c.file(2, QUIET, dead), c.file(2, HIT, meter.Judged("overloaded", 3))), (("dead", 0), ("overloaded", 3)))
+        c._lent[1][0] += 1
+        self.refused(15, c.file, 0, NIGHT, dead)
+
+    def test_a_verdict_of_the_wrong_type_says_what_is_wanted(self):
+        c = meter.Campaign(3)
+        entered = c.enter(9, NIGHT)
+        before = memory(c)
+        for wrong in (entered, ("kept", None), "kept", 1, None, meter.Judged):
+            with self.assertRaisesRegex(TypeError, r"^verdict must be what judge\(\) answers, not ", msg=wrong):
+                c.file(1, NIGHT, wrong)
+        for place in (None, "3", 3.0):
+            with self.assertRaisesRegex(TypeError, "^the place of an overloaded verdict must be a whole number, not ", msg=place):
+                c.file(1, HIT, meter.Judged("overloaded", place))
+        with self.assertRaisesRegex(TypeError, "^samples must be "):
+            c.file(1, 5, meter.Judged("kept"))
+        self.assertEqual((memory(c), c.ledger.notes[-1].words), (before, "TypeError: samples must be a sequence of whole numbers, not int"))
+
+    def test_a_judged_verdict_comes_back_from_a_pickle(self):
+        c = meter.Campaign(3)
+        again = pickle.loads(pickle.dumps(meter.judge(3, 3, HIT)))
+        self.assertEqual(c.file(1, HIT, again), ("overloaded", 3))
+
+
 class Room(Case):
     def test_every_order_gets_by_on_p_tags(self):
         for order in range(2, 17):
@@ -211,6 +357,8 @@ class Periods(Case):
                 (meter.sequence, order, taps),
                 (meter.recording, zeros, order, taps),
                 (meter.predict, zeros, order, taps),
+                (meter.judge, order, taps, zeros),
+                (meter.judge, order, taps, zeros * 2, 1),
                 (meter.Campaign, order, taps),
                 (meter.trend, [], order, taps),
             ]:
@@ -264,8 +412,8 @@ class Refusals(Case):
 
     def test_answers_in_words(self):
         program = "the program only: order above 9, slots above 8, or 5 to 16 periods"
-        said = ["accepted", "verdict kept and C days stand", program, "periods not 1 to 16", "unknown"]
-        self.assertEqual([meter.explain(n) for n in (0, 12, 17, 18, 19)], said)
+        said = ["accepted", "verdict kept and C days stand", program, "periods not 1 to 16", "unknown", "verdict handed in is not what judging gives"]
+        self.assertEqual([meter.explain(n) for n in (0, 12, 17, 18, 19, 23)], said)
 
     def test_a_refusal_keeps_its_number_when_pickled(self):
         with self.assertRaises(meter.Refused) as met:
@@ -336,6 +484,16 @@ class Nights(Case):
         listed = c.not_in_mean()
         self.assertEqual((listed[200], 6 in listed), ("withdrawn", False))
 
+    def call_at_random(self, draw, c, day, night, periods=None):
+        """A withdrawal, an entry, or a filing with one of the three verdicts, of which two are wrong."""
+        what = draw.random()
+        if what < 0.3:
+            c.withdraw(day)
+        elif what < 0.7:
+            c.enter(day, night, periods)
+        else:
+            c.file(day, night, meter.Judged(*draw.choice(JUDGED)[1]), periods)
+
     def test_the_ledger_says_what_the_core_says(self):
         draw = random.Random(1)
         nights = [[NIGHT], [QUIET], [HIT], [NIGHT[:6]], [[BEYOND] * 7], [NIGHT * 3, 2], [QUIET * 3, 2], [NIGHT + HIT, 1], [HIT + NIGHT, 1], [NIGHT * 3, 17]]
@@ -345,10 +503,7 @@ class Nights(Case):
                 day = draw.choice([0, 1, 2, 3, 4, 5, 6, 366, 367])
                 named.add(day)
                 try:
-                    if draw.random() < 0.3:
-                        c.withdraw(day)
-                    else:
-                        c.enter(day, *draw.choice(nights))
+                    self.call_at_random(draw, c, day, *draw.choice(nights))
                 except meter.Refused:
                     pass
                 stands = set(c.states().get("standing", []))

@@ -2,6 +2,7 @@
 //! the same order and makes them through the door.
 
 use crate::door_campaign::campaign_case;
+use crate::door_judging::judge_case;
 use crate::player::Player;
 use crate::quiet::quiet;
 use crate::refusal::{number, told_period, Refusal};
@@ -17,14 +18,15 @@ use std::io::{self, Write};
 pub fn print(seed: u64, count: u64, out: &mut impl Write) -> io::Result<()> {
     for case in 0..count {
         let mut rng = Rng::for_log(seed, case);
-        let lines = match rng.below(9) {
+        let lines = match rng.below(10) {
             0 => taps_case(&mut rng),
             1 => sequence_case(&mut rng),
             2 => player_case(&mut rng),
             3 => recording_case(&mut rng),
             4 => predict_case(&mut rng),
             5 => predict_in_room_case(&mut rng),
-            _ => campaign_case(&mut rng),
+            6..=8 => campaign_case(&mut rng),
+            _ => judge_case(&mut rng),
         };
         for line in lines {
             writeln!(out, "{case} {line}")?;
@@ -107,7 +109,7 @@ pub fn filled<T: From<u8>>(length: usize) -> Vec<T> {
 // ---- the cases
 
 /// What the caller's variable for a period holds before the call.
-const UNWRITTEN: usize = 99_999;
+pub const UNWRITTEN: usize = 99_999;
 
 /// The number of an answer, and what the caller's variable for the period holds after it.
 pub fn with_period(answer: &Result<usize, Refusal>) -> String {

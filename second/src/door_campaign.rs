@@ -3,6 +3,7 @@
 use crate::campaign::{Lent, DAYS, MOST_SLOTS};
 use crate::door::{any_order, any_taps, filled, near, near_tags, period_of, with_period};
 use crate::door_held::{told, Held};
+use crate::door_judging::{judge_and_file, Drawn};
 use crate::door_nights::{any_day, any_periods, capture, one_period};
 use crate::night::Night;
 use crate::reading::Summary;
@@ -27,7 +28,7 @@ pub fn campaign_case(rng: &mut Rng) -> Vec<String> {
         _ => 4,
     };
     for _ in 0..2 + rng.below(most_steps) {
-        let what = rng.below(13);
+        let what = rng.below(19);
         let damage = held.damage(rng);
         let (answer, line) = match what {
             0..=3 => enter_line(&mut held, rng),
@@ -35,7 +36,9 @@ pub fn campaign_case(rng: &mut Rng) -> Vec<String> {
             8 | 9 => withdraw_line(&mut held, rng),
             10 => counts_line(&held),
             11 => response_line(&held, rng),
-            _ => summary_line(&held, rng),
+            12 => summary_line(&held, rng),
+            13..=15 => judge_and_file(&mut held, rng, Drawn::one_period, &mut lines),
+            _ => judge_and_file(&mut held, rng, Drawn::capture, &mut lines),
         };
         lines.push(line);
         if answer == Refusal::DoesNotHoldTogether.number() {

@@ -1,7 +1,8 @@
 //! What the C door's caller holds of a campaign, and the calls on it as the door makes them: the tables are lists that may be too short.
 
 use crate::campaign::{self, Campaign, DayState, Lent, DAYS, MOST_SLOTS};
-use crate::entering::Verdict;
+use crate::entering::{Entry, Verdict};
+use crate::judging::Judged;
 use crate::night::Night;
 use crate::refusal::Refusal;
 use crate::year_memory::digest_of;
@@ -19,7 +20,7 @@ pub struct Held {
 }
 
 /// What the caller's variables for a state and a value hold before the call.
-const UNTOLD: usize = 9;
+pub const UNTOLD: usize = 9;
 
 fn state_of(byte: u8) -> Option<DayState> {
     use DayState::*;
@@ -28,7 +29,7 @@ fn state_of(byte: u8) -> Option<DayState> {
         .copied()
 }
 
-/// The answer of an entry, and the caller's variables for the state and the value after it.
+/// The answer of a filing or an entry, and the caller's variables for the state and the value after it.
 pub fn told(verdict: Verdict) -> (u8, usize, usize) {
     match verdict {
         Verdict::Kept { slot } => (0, DayState::Standing as usize, slot),
@@ -84,11 +85,19 @@ impl Held {
     }
 
     pub fn enter(&mut self, day: u16, night: Night) -> Verdict {
+        self.bring(|record, lent| record.enter(lent, day, night))
+    }
+
+    pub fn file(&mut self, day: u16, night: Night, shown: Judged) -> Verdict {
+        self.bring(|record, lent| record.file(lent, day, night, shown))
+    }
+
+    fn bring(&mut self, night: impl Fn(&mut Campaign, &mut Lent) -> Entry) -> Verdict {
         let mut record = match self.record() {
             Ok(record) => record,
             Err(refusal) => return Verdict::Refused(refusal),
         };
-        let verdict = record.enter(&mut self.lent, day, night).verdict;
+        let verdict = night(&mut record, &mut self.lent).verdict;
         self.write_back(&record);
         verdict
     }

@@ -1,6 +1,7 @@
 //! Names for a verdict by the spread of its recording, so that a comparison can show how near to the edge between dead and kept it came.
 
-use crate::entering::{spread, Verdict, DEAD_SPREAD};
+use crate::entering::Verdict;
+use crate::judging::{spread, DEAD_SPREAD};
 use crate::response::{HIGHEST, LOWEST};
 
 /// The smallest spread that is kept.

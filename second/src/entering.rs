@@ -1,9 +1,9 @@
-//! Entering a day's night and withdrawing a standing day.
+//! Filing a day's night under the verdict that was shown, entering one, and withdrawing a standing day.
 
 use crate::campaign::{check_day, Campaign, DayState, Lent, FREE, NO_PERIODS};
+use crate::judging::{judge, Judged};
 use crate::night::{summed, Night};
 use crate::refusal::Refusal;
-use crate::response::{in_sample_range, HIGHEST, LOWEST};
 
 #[derive(Clone, Copy, Debug, PartialEq, Eq)]
 pub enum Verdict {
@@ -48,33 +48,16 @@ pub struct Entry {
     pub verdict: Verdict,
 }
 
-/// The widest spread of a dead input, by request 2 of 02: converters dither.
-pub const DEAD_SPREAD: i64 = 7;
-
-/// The largest sample minus the smallest, wide, so that no two samples overflow; 0 where there is no sample.
-pub fn spread(samples: &[i32]) -> i64 {
-    let ends = samples.iter().max().zip(samples.iter().min());
-    ends.map_or(0, |(&largest, &smallest)| {
-        i64::from(largest) - i64::from(smallest)
-    })
-}
-
-pub fn at_a_rail(sample: &i32) -> bool {
-    [LOWEST, HIGHEST].contains(sample)
-}
-
-/// Overloaded at its first rail, otherwise dead, otherwise nothing against it.
-pub fn fault(samples: &[i32]) -> Option<Verdict> {
-    if let Some(place) = samples.iter().position(at_a_rail) {
-        return Some(Verdict::Overloaded { place });
-    }
-    (spread(samples) <= DEAD_SPREAD).then_some(Verdict::Dead)
-}
-
 impl Campaign {
-    /// Refusals 15, 10, 18, 5, 7, 11, then the verdict, then 12.
+    /// A filing with the verdict that judging gives.
     pub fn enter(&mut self, lent: &mut Lent, day: u16, night: Night) -> Entry {
-        let verdict = match self.judge(lent, day, night) {
+        let shown = judge(self.order, self.taps, night).verdict;
+        self.file(lent, day, night, shown)
+    }
+
+    /// Refusals 15, 10, 18, 5, 7, 11, 23, then the verdict, then 12.
+    pub fn file(&mut self, lent: &mut Lent, day: u16, night: Night, shown: Judged) -> Entry {
+        let verdict = match self.check_filing(lent, day, night, shown) {
             Ok(verdict) => verdict,
             Err(refusal) => Verdict::Refused(refusal),
         };
@@ -87,22 +70,34 @@ impl Campaign {
         Entry { day, verdict }
     }
 
-    fn judge(&self, lent: &Lent, day: u16, night: Night) -> Result<Verdict, Refusal> {
+    /// The verdict to be filed, with its slot where it is kept.
+    fn check_filing(
+        &self,
+        lent: &Lent,
+        day: u16,
+        night: Night,
+        shown: Judged,
+    ) -> Result<Verdict, Refusal> {
         self.check_holding(lent)?;
         check_day(day)?;
-        let m = night.check_periods()?;
-        night.check_length(self.p(), m)?;
-        if !night.samples.iter().all(|&v| in_sample_range(i64::from(v))) {
-            return Err(Refusal::ValueOutsideRange);
-        }
+        night.check(self.p())?;
         if self.state(day) == DayState::Standing {
             return Err(Refusal::AlreadyStanding);
         }
-        if let Some(verdict) = fault(night.judged(self.p())) {
-            return Ok(verdict);
+        let judged = judge(self.order, self.taps, night).verdict;
+        if shown != judged {
+            return Err(Refusal::NotAsJudged);
         }
-        let slot = self.slot_holding(FREE).ok_or(Refusal::AllSlotsUsed)?;
-        Ok(Verdict::Kept { slot })
+        match judged {
+            Judged::Kept => {
+                let slot = self.slot_holding(FREE).ok_or(Refusal::AllSlotsUsed)?;
+                Ok(Verdict::Kept { slot })
+            }
+            Judged::Overloaded { place } => Ok(Verdict::Overloaded { place }),
+            Judged::Dead => Ok(Verdict::Dead),
+            // Never met: what judging refuses is refused above.
+            Judged::Refused(refusal) => Err(refusal),
+        }
     }
 
     /// The slot gets the sum of the whole periods judged, and the sums get it on top.

@@ -2,7 +2,8 @@
 
 use crate::campaign::{check_day, Campaign, DayState};
 use crate::edge::{self, KEPT_SPREAD};
-use crate::entering::{fault, spread, Verdict};
+use crate::entering::Verdict;
+use crate::judging::{spread, verdict_on, Judged};
 use crate::met_capture;
 use crate::open_day::{OpenDay, Opened, PROGRAM_PERIODS};
 use crate::refusal::{number, Refusal};
@@ -54,10 +55,10 @@ fn one_period(before: &Campaign, samples: &[i32], day: u16, verdict: Verdict) ->
     let names = match verdict {
         Verdict::Refused(Refusal::DayOutOfRange) if short => vec!["10 and short".to_string()],
         Verdict::Refused(Refusal::WrongLength) if standing => vec!["5 and standing".to_string()],
-        Verdict::Refused(Refusal::AlreadyStanding) => match fault(samples) {
-            Some(Verdict::Overloaded { .. }) => vec!["11 and at a rail".to_string()],
-            Some(_) => vec!["11 and dead".to_string()],
-            None => vec!["11".to_string()],
+        Verdict::Refused(Refusal::AlreadyStanding) => match verdict_on(samples) {
+            Judged::Overloaded { .. } => vec!["11 and at a rail".to_string()],
+            Judged::Dead => vec!["11 and dead".to_string()],
+            _ => vec!["11".to_string()],
         },
         Verdict::Refused(Refusal::AllSlotsUsed) if spread(samples) == KEPT_SPREAD => {
             vec![format!("12 at {KEPT_SPREAD}")]

@@ -2,8 +2,9 @@
 
 use crate::campaign::{check_day, Campaign, DayState};
 use crate::edge::KEPT_SPREAD;
-use crate::entering::{at_a_rail, fault, spread, Verdict, DEAD_SPREAD};
+use crate::entering::Verdict;
 use crate::holding::{highest_sum, lowest_sum};
+use crate::judging::{at_a_rail, spread, verdict_on, Judged, DEAD_SPREAD};
 use crate::met::state_word;
 use crate::night::summed;
 use crate::open_day::OpenDay;
@@ -90,12 +91,12 @@ fn too_short(before: &Campaign, open: &OpenDay, m: u8) -> Found {
 
 /// By the verdict that comes too late.
 fn standing_already(before: &Campaign, open: &OpenDay) -> Found {
-    let fault = fault(&open.samples[before.p()..]);
-    let at_a_rail = matches!(fault, Some(Verdict::Overloaded { .. }));
+    let late = verdict_on(&open.samples[before.p()..]);
+    let at_a_rail = matches!(late, Judged::Overloaded { .. });
     found([
-        (fault.is_none(), "and kept"),
+        (late == Judged::Kept, "and kept"),
         (at_a_rail, "and at a rail"),
-        (fault == Some(Verdict::Dead), "and dead"),
+        (late == Judged::Dead, "and dead"),
     ])
 }
 

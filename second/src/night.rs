@@ -1,6 +1,7 @@
-//! A night's recording as it is brought to an entry: one period, or by request 1 of 02 a capture of several behind a run-in.
+//! A night's recording as it is brought to be judged and filed: one period, or by request 1 of 02 a capture of several behind a run-in.
 
 use crate::refusal::Refusal;
+use crate::response::in_sample_range;
 
 /// The most periods that a capture may keep.
 pub const MOST_PERIODS: u32 = 16;
@@ -32,23 +33,22 @@ impl<'a> Night<'a> {
         }
     }
 
-    /// How many periods count. Refusal 18, which one period never meets.
-    pub fn check_periods(&self) -> Result<usize, Refusal> {
-        check_periods(self.m)
-    }
-
     /// The samples that count, for a night of the right length: those after the run-in.
     pub fn judged(&self, p: usize) -> &'a [i32] {
         &self.samples[self.run_in * p..]
     }
 
-    /// Refusal 5: the run-in and the m periods that count, neither more nor less.
-    pub fn check_length(&self, p: usize, m: usize) -> Result<(), Refusal> {
-        if self.samples.len() == (self.run_in + m) * p {
-            Ok(())
-        } else {
-            Err(Refusal::WrongLength)
+    /// Refusals 18, which one period never meets, 5 and 7.
+    pub fn check(&self, p: usize) -> Result<(), Refusal> {
+        let m = check_periods(self.m)?;
+        // The run-in and the m periods that count, neither more nor less.
+        if self.samples.len() != (self.run_in + m) * p {
+            return Err(Refusal::WrongLength);
         }
+        if !self.samples.iter().all(|&v| in_sample_range(i64::from(v))) {
+            return Err(Refusal::ValueOutsideRange);
+        }
+        Ok(())
     }
 }
 

@@ -2,6 +2,7 @@
 
 use crate::campaign::{check_day, Campaign, Lent};
 use crate::entering::Verdict;
+use crate::judging::judge;
 use crate::night::{capture_length, check_periods, Night};
 use crate::refusal::Refusal;
 
@@ -58,7 +59,7 @@ impl OpenDay {
         }
     }
 
-    /// The verdict on what came, entered where the program takes so many periods.
+    /// The verdict on what came, judged and then filed where the program takes so many periods.
     pub fn enter(&self, campaign: &mut Campaign, lent: &mut Lent) -> Verdict {
         let night = match self.opened {
             Opened::Capture { m } if !self.opened.keeps_samples() => {
@@ -67,7 +68,8 @@ impl OpenDay {
             Opened::Capture { m } => Night::capture(u32::from(m), &self.samples),
             Opened::OnePeriod => Night::one_period(&self.samples),
         };
-        campaign.enter(lent, self.day, night).verdict
+        let shown = judge(campaign.order, campaign.taps, night).verdict;
+        campaign.file(lent, self.day, night, shown).verdict
     }
 }
 

@@ -1,4 +1,4 @@
-//! Document 01's "Order of checks", with 18 of request 1 of document 02: for each two checks that stand side by side in a call's list, an input to which both apply,
+//! Document 01's "Order of checks", with 18 and 23 of requests 1 and 5 of document 02: for each two checks that stand side by side in a call's list, an input to which both apply,
 //! so that the answer tells which comes first. `door/order.c` makes the same calls through the C door.
 
 use crate::campaign::start;

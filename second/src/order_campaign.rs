@@ -3,24 +3,24 @@
 use crate::campaign::{Lent, DAYS, MOST_SLOTS, NO_PERIODS};
 use crate::door::with_period;
 use crate::door_held::{told, Held};
+use crate::door_judging::shown_by;
 use crate::entering::Verdict;
 use crate::night::{Night, MOST_PERIODS};
 use crate::order::{line, P, ROOM, TAGS};
+use crate::order_filing;
+use crate::order_shapes::{beyond, one, plain, two, Shape, BEYOND, KEPT, WHOLE};
 use crate::reading::Summary;
 use crate::refusal::number;
 use crate::response::{HIGHEST, LOWEST};
 use crate::room::Room;
 
-/// The first sample of a recording of zeros whose spread is the smallest that is kept.
-const KEPT: i32 = 8;
-const BEYOND: i32 = HIGHEST + 1;
 /// A run-in and two periods.
 const SUMS_TO_ZEROS: [i32; 3 * P] = [0, 0, 0, KEPT, 0, 0, -KEPT, 0, 0];
 
 /// What is wrong with a record that does not hold together. Those from `NoPeriods` to `BeyondItsPeriods` are of a used slot, and that of
 /// `NoPeriodsOfZeros` holds zeros, as a free one does.
 #[derive(Clone, Copy, PartialEq, Eq, PartialOrd, Ord)]
-enum Damage {
+pub enum Damage {
     Whole,
     Sum,
     FreePeriods,
@@ -35,7 +35,7 @@ enum Damage {
 }
 
 impl Damage {
-    const ALL: [Damage; 10] = [
+    pub const ALL: [Damage; 10] = [
         Damage::Sum,
         Damage::FreePeriods,
         Damage::PastCPeriods,
@@ -48,7 +48,7 @@ impl Damage {
         Damage::ShortPeriods,
     ];
 
-    fn stands(self) -> bool {
+    pub fn stands(self) -> bool {
         (Damage::NoPeriods..=Damage::BeyondItsPeriods).contains(&self)
     }
 
@@ -75,6 +75,7 @@ pub fn lines() -> Vec<String> {
     let mut lines = starts();
     lines.extend(enters());
     lines.extend(captures());
+    lines.extend(order_filing::lines());
     for damage in Damage::ALL {
         let stands = damage.stands();
         lines.extend(before_10(damage, stands));
@@ -104,7 +105,7 @@ fn held(count: u32) -> Held {
 }
 
 /// A start; day 1 stands where asked, which uses the only slot; then the damage.
-fn begun(damage: Damage, standing: bool) -> Held {
+pub fn begun(damage: Damage, standing: bool) -> Held {
     let mut held = held(1);
     held.start().expect("it is accepted");
     if standing {
@@ -132,7 +133,7 @@ fn starts() -> Vec<String> {
 }
 
 /// The answer, and the state and value that the verdict gives, 9 and 9 where it gives none.
-fn verdict_line(call: &str, checks: &str, verdict: Verdict) -> String {
+pub fn verdict_line(call: &str, checks: &str, verdict: Verdict) -> String {
     let (answer, state, value) = told(verdict);
     format!("{call}: {checks}: {answer} {state} {value}")
 }
@@ -165,37 +166,6 @@ fn enters() -> [String; 14] {
     ]
 }
 
-/// A capture's samples: the run-in is P of `run_in`, and behind it stand `first`, as many `other` as it takes, and `last`.
-#[derive(Clone, Copy)]
-struct Shape {
-    n: usize,
-    run_in: i32,
-    first: i32,
-    other: i32,
-    last: i32,
-}
-
-impl Shape {
-    fn samples(&self) -> Vec<i32> {
-        let sample = |j: usize| match j {
-            0..P => self.run_in,
-            P => self.first,
-            _ if j + 1 == self.n => self.last,
-            _ => self.other,
-        };
-        (0..self.n).map(sample).collect()
-    }
-}
-
-/// One period behind the run-in, kept.
-const WHOLE: Shape = Shape {
-    n: 2 * P,
-    run_in: 0,
-    first: KEPT,
-    other: 0,
-    last: 0,
-};
-
 fn capture(checks: &str, standing: bool, day: u16, m: u32, shape: Shape) -> String {
     let samples = shape.samples();
     let night = Night::capture(m, &samples);
@@ -205,23 +175,18 @@ fn capture(checks: &str, standing: bool, day: u16, m: u32, shape: Shape) -> Stri
 
 /// Those that are refused before the day's state is looked at.
 fn refused_captures() -> [String; 14] {
-    let long = |n: usize| Shape { n, ..WHOLE };
-    let beyond = |n: usize| Shape {
-        run_in: BEYOND,
-        ..long(n)
-    };
     let last = Shape {
         last: BEYOND,
         ..WHOLE
     };
     [
-        capture("10 before 18", false, 0, 0, long(P)),
+        capture("10 before 18", false, 0, 0, plain(P)),
         capture("10 before 18", false, 367, 17, WHOLE),
         capture("10 before 18", false, 0, u32::MAX, WHOLE),
         capture("18 before 5", false, 2, 0, WHOLE),
         capture("18 before 5", false, 2, 17, WHOLE),
         capture("18 before 5", false, 2, 255, WHOLE),
-        capture("18 before 5", false, 2, 256, long(P)),
+        capture("18 before 5", false, 2, 256, plain(P)),
         capture("18 before 5", false, 2, u32::MAX, WHOLE),
         capture("5 before 7", false, 2, 1, beyond(P)),
         capture("5 before 7", false, 2, 1, beyond(2 * P - 1)),
@@ -232,39 +197,31 @@ fn refused_captures() -> [String; 14] {
     ]
 }
 
-/// Those that are judged, or would be but for 11. The run-in is at a rail, so that one who judges it finds an overload.
+/// Those that are judged, or would be but for 11.
 fn judged_captures() -> [String; 18] {
-    let of = |first: i32, other: i32, last: i32| Shape {
-        run_in: HIGHEST,
-        first,
-        other,
-        last,
-        ..WHOLE
-    };
-    let kept = of(KEPT, 0, 0);
-    let (first, last) = (of(LOWEST, 0, 0), of(0, 0, HIGHEST));
-    let (still, dithers) = (of(5, 5, 5), of(5, -2, -2));
-    let upper = of(HIGHEST - 7, HIGHEST - 7, HIGHEST);
-    let two = |shape: Shape| Shape { n: 3 * P, ..shape };
+    let kept = one(KEPT, 0, 0);
+    let (first, last) = (one(LOWEST, 0, 0), one(0, 0, HIGHEST));
+    let (still, dithers) = (one(5, 5, 5), one(5, -2, -2));
+    let (rail, near) = (HIGHEST, HIGHEST - 7);
     [
         capture("11 before the verdict", true, 1, 1, first),
         capture("11 before the verdict", true, 1, 1, still),
         capture("11 before the verdict", true, 1, 1, dithers),
         capture("11 before 12", true, 1, 1, kept),
-        capture("overloaded before dead", false, 2, 1, upper),
-        capture("overloaded before dead", false, 2, 2, two(upper)),
+        capture("overloaded before dead", false, 2, 1, one(near, near, rail)),
+        capture("overloaded before dead", false, 2, 2, two(near, near, rail)),
         capture("the run-in is not judged", false, 2, 1, kept),
         capture("the run-in is not judged", false, 2, 1, still),
-        capture("the run-in is not judged", false, 2, 2, two(dithers)),
+        capture("the run-in is not judged", false, 2, 2, two(5, -2, -2)),
         capture("the run-in is not counted", false, 2, 1, first),
         capture("the run-in is not counted", false, 2, 1, last),
-        capture("the run-in is not counted", false, 2, 2, two(last)),
+        capture("the run-in is not counted", false, 2, 2, two(0, 0, HIGHEST)),
         capture("the verdict before 12", true, 2, 1, first),
-        capture("the verdict before 12", true, 2, 2, two(last)),
+        capture("the verdict before 12", true, 2, 2, two(0, 0, HIGHEST)),
         capture("the verdict before 12", true, 2, 1, still),
-        capture("the verdict before 12", true, 2, 2, two(dithers)),
+        capture("the verdict before 12", true, 2, 2, two(5, -2, -2)),
         capture("12 alone", true, 2, 1, kept),
-        capture("12 alone", true, 2, 2, two(kept)),
+        capture("12 alone", true, 2, 2, two(KEPT, 0, 0)),
     ]
 }
 
@@ -275,17 +232,19 @@ fn captures() -> Vec<String> {
 }
 
 /// Every call that names a day, on day 0.
-fn before_10(damage: Damage, standing: bool) -> [String; 3] {
+fn before_10(damage: Damage, standing: bool) -> [String; 5] {
     let checks = "15 before 10";
     let mut held = begun(damage, standing);
-    let (one, several) = ([KEPT, 0, 0], WHOLE.samples());
-    let entered = held.enter(0, Night::one_period(&one));
-    let captured = held.enter(0, Night::capture(1, &several));
-    let withdrawn = number(&held.withdraw(0));
+    let samples = WHOLE.samples();
+    let period = Night::one_period(&[KEPT, 0, 0]);
+    let several = Night::capture(1, &samples);
+    let dead = shown_by((3, 0));
     [
-        verdict_line("enter", checks, entered),
-        verdict_line("capture", checks, captured),
-        line("withdraw", checks, withdrawn),
+        verdict_line("enter", checks, held.enter(0, period)),
+        verdict_line("capture", checks, held.enter(0, several)),
+        verdict_line("file", checks, held.file(0, period, dead)),
+        verdict_line("file capture", checks, held.file(0, several, dead)),
+        line("withdraw", checks, number(&held.withdraw(0))),
     ]
 }
 

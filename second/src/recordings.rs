@@ -1,7 +1,7 @@
 //! Random recordings of every sort for random logs.
 
 use crate::edge::KEPT_SPREAD;
-use crate::entering::fault;
+use crate::judging::{verdict_on, Judged};
 use crate::quiet::quiet;
 use crate::register::{period, signal};
 use crate::response::{predict, HIGHEST, LOWEST};
@@ -34,7 +34,7 @@ pub fn kept(rng: &mut Rng, order: u32, taps: u32) -> Vec<i32> {
             2..=5 => quiet(rng, period(order)),
             _ => noise(rng, order, 8_388_606),
         };
-        if fault(&samples).is_none() {
+        if verdict_on(&samples) == Judged::Kept {
             return samples;
         }
     }

@@ -23,6 +23,8 @@ pub enum Refusal {
     Window,
     ProgramLimit,
     PeriodsOutOfRange,
+    /// The verdict handed to filing is not what judging gives.
+    NotAsJudged,
 }
 
 impl Refusal {
@@ -46,6 +48,7 @@ impl Refusal {
             Refusal::Window => 16,
             Refusal::ProgramLimit => 17,
             Refusal::PeriodsOutOfRange => 18,
+            Refusal::NotAsJudged => 23,
         }
     }
 }

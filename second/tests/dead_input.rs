@@ -2,7 +2,7 @@
 
 use second::campaign::{start, Campaign, DayState, Lent};
 use second::entering::Verdict::{self, *};
-use second::entering::{fault, spread};
+use second::judging::{spread, verdict_on, Judged};
 use second::night::Night;
 use second::refusal::Refusal::{self, *};
 use second::response::{HIGHEST, LOWEST};
@@ -100,7 +100,7 @@ fn the_spread_is_wide() {
     assert_eq!(spread(&[LOWEST, HIGHEST]), 16_777_215);
     assert_eq!(spread(&[i32::MIN, i32::MAX]), 4_294_967_295);
     assert_eq!(spread(&[i32::MAX, 0, i32::MIN]), 4_294_967_295);
-    assert_eq!(fault(&[i32::MIN, i32::MAX]), None);
+    assert_eq!(verdict_on(&[i32::MIN, i32::MAX]), Judged::Kept);
 }
 
 #[test]
@@ -176,15 +176,19 @@ fn a_quiet_recording_at_a_rail_is_overloaded_at_its_first_place() {
 #[test]
 fn a_list_of_any_length_is_judged() {
     assert_eq!(spread(&[]), 0);
-    assert_eq!([fault(&[]), fault(&[5])], [Some(Dead); 2]);
-    assert_eq!([fault(&[0, 7]), fault(&[7, 0])], [Some(Dead); 2]);
-    assert_eq!([fault(&[0, 8]), fault(&[8, 0])], [None; 2]);
+    for dead in [&[][..], &[5], &[0, 7], &[7, 0]] {
+        assert_eq!(verdict_on(dead), Judged::Dead);
+    }
+    for kept in [[0, 8], [8, 0]] {
+        assert_eq!(verdict_on(&kept), Judged::Kept);
+    }
     let mut long: Vec<i32> = (0..65_535).map(|j| j % 8).collect();
-    assert_eq!(fault(&long), Some(Dead));
+    assert_eq!(verdict_on(&long), Judged::Dead);
     *long.last_mut().unwrap() = 8;
-    assert_eq!(fault(&long), None);
+    assert_eq!(verdict_on(&long), Judged::Kept);
     *long.last_mut().unwrap() = HIGHEST;
-    assert_eq!(fault(&long), Some(Overloaded { place: 65_534 }));
+    let place = 65_534;
+    assert_eq!(verdict_on(&long), Judged::Overloaded { place });
 }
 
 /// An entry that is refused, and that changes nothing.

@@ -4,6 +4,7 @@ use second::campaign::Lent;
 use second::door_held::{told, Held};
 use second::door_nights::{any_periods, capture};
 use second::entering::Verdict;
+use second::judging::Judged;
 use second::night::Night;
 use second::order;
 use second::reading::Summary;
@@ -53,7 +54,7 @@ fn with_two_nights() -> Held {
     held
 }
 
-/// The answers of the six calls after a start, each asked for something that would be refused later too; none changes anything.
+/// The answers of the eight calls after a start, each asked for something that would be refused later too; none changes anything.
 fn answers(held: &Held) -> BTreeSet<u8> {
     let mut after = held.clone();
     let mut room = Room {
@@ -73,6 +74,8 @@ fn answers(held: &Held) -> BTreeSet<u8> {
     let told = [
         told(after.enter(0, Night::one_period(&[]))).0,
         told(after.enter(0, Night::capture(0, &[]))).0,
+        told(after.file(0, Night::one_period(&[]), Judged::Kept)).0,
+        told(after.file(0, Night::capture(0, &[]), Judged::Kept)).0,
         number(&after.withdraw(0)),
     ];
     let asked = match &record {

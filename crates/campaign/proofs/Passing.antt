@@ -1,31 +1,30 @@
--- What the checks of a start, an entry and a withdrawal have shown where none refuses. Assumes nothing.
+-- What the checks of a start, a filing and a withdrawal have shown where none refuses. Assumes nothing.
 use mathlib.Core.Path.{_≡_, refl, sym, ap, _∙_}
 use mathlib.Core.Bool.{false, cond}
 use mathlib.Core.List.{List}
 use Prim.Native.Nat.{ℕ, _+_, _-_, _*_, _^_, _≤_, _<_}
-use native.Mathlib.Nat.{mul-le-mul-right, suc-mul, add-mul}
+use native.Mathlib.Nat.{mul-le-mul-right, suc-mul}
 use native.Mathlib.Decide.{decLt}
 use native.Mathlib.Omega.{arith}
 use borrow.Author.Tests.{ltb-false, eqb-true, not-false}
 use lib.Dec.{eqb, ltb}
 use lib.IntN.{ℤ, pos, natAbs}
-use lib.ListN.{length, length-drop}
+use lib.ListN.{length}
 use Rattle.sums.specs.Lists.{at, many}
 use Rattle.sums.specs.Refusals.{first}
 use Rattle.sums.proofs.Everywhere.{many-none}
-use Rattle.sums.proofs.First.{passes, accepts, or-false, read-off}
-use Rattle.sums.proofs.Somewhere.{none-of, some-none}
+use Rattle.sums.proofs.First.{passes, accepts, or-false, passed-first, read-off}
 use Rattle.sums.proofs.Seek.{First, seek-first}
 use Rattle.sums.proofs.Sum.{sum-ext, sum-one}
-use Rattle.samples.specs.Samples.{sampleOut, someOut}
-use Rattle.samples.proofs.Sizes.{sample-size}
-use Rattle.nights.specs.Nights.{lead, periodsOf, nightLength}
+use Rattle.finding.specs.Finding.{finding}
 use Rattle.nights.specs.declared.Night.{Night}
-use Rattle.nights.proofs.Terms.{settled-long, settled-at}
 use Rattle.register.specs.Register.{P, Accepted}
 use Rattle.register.specs.Calls.{tapsChecks, answerOf, tapsAnswer}
 use Rattle.register.proofs.Judged.{accepted-exactly}
 use Rattle.register.proofs.Word.{small}
+use Rattle.judging.specs.Judging.{nightChecks, judgedOf}
+use Rattle.judging.proofs.Heard.{Heard, from-passed}
+use Rattle.judging.proofs.Judgements.{judge-found}
 use Rattle.records.specs.Record.{standing, state, daysIn, slot, free}
 use Rattle.records.specs.declared.Campaign.{Campaign}
 use Rattle.records.proofs.Holding.{Filed, Together, not-apart}
@@ -33,7 +32,7 @@ use Rattle.records.proofs.Refiling.{Day}
 use Rattle.records.proofs.Tallying.{used-standing}
 use Rattle.records.proofs.Totals.{sum-small}
 use Rattle.campaign.specs.declared.Started.{Started}
-use Rattle.campaign.specs.Calls.{dayOut, startChecks, startOutcome, enterChecks, settledOf, withdrawChecks, lowestFree, slotOfDay}
+use Rattle.campaign.specs.Calls.{dayOut, startChecks, startOutcome, enterChecks, judgedFor, settledOf, withdrawChecks, lowestFree, slotOfDay}
 
 pub in-day : (d : ℕ) → dayOut d ≡ false → Day d
 in-day d h = let two = or-false (ltb d 1) (ltb 366 d) h in record { first = ltb-false d 1 (two .0); last = ltb-false 366 d (two .1) }
@@ -132,42 +131,24 @@ withdraws c store sums d z =
     let r = in-day d (p .1 .0) in
     record { whole = t; day = r; inside = slot-of-day c (t .filed) d r (eqb-true (state c d) standing (not-false _ (p .1 .1 .0))) .0 }
 
+-- what a night that may be filed has shown
 pub record Enters (c : Campaign) (store sums : List ℤ) (d : ℕ) (night : Night) (y : List ℤ) : Type 0 where
   pub whole : Together c store sums
   pub day : Day d
-  pub least : 1 ≤ periodsOf night
-  pub most : periodsOf night ≤ 16
-  pub long : length y ≡ nightLength (P (c .order)) night
-  pub ranged : (j : ℕ) → j < length y → sampleOut (at y j) ≡ false
+  pub heard : Heard (c .order) night y
 
 pub enters : (c : Campaign) (store sums : List ℤ) (d : ℕ) (night : Night) (y : List ℤ) → first (enterChecks c store sums d night y) ≡ 0
     → Enters c store sums d night y
 enters c store sums d night y z =
     let p = passes (enterChecks c store sums d night y) tt z in
-    let range = or-false (ltb (periodsOf night) 1) (ltb 16 (periodsOf night)) (p .1 .1 .0) in
-    record {
-      whole = not-apart c store sums (p .0);
-      day = in-day d (p .1 .0);
-      least = ltb-false (periodsOf night) 1 (range .0);
-      most = ltb-false 16 (periodsOf night) (range .1);
-      long = eqb-true (length y) (nightLength (P (c .order)) night) (not-false _ (p .1 .1 .1 .0));
-      ranged = λ j l. none-of (λ k. sampleOut (at y k)) (length y) (p .1 .1 .1 .1 .0) j l;
-    }
+    record { whole = not-apart c store sums (p .0); day = in-day d (p .1 .0); heard = from-passed (c .order) night y (p .1 .1 .0, (p .1 .1 .1 .0, (p .1 .1 .1 .1 .0, tt))) }
 
-module _ {c : Campaign} {store sums : List ℤ} {d : ℕ} {night : Night} {y : List ℤ} (e : Enters c store sums d night y) where
-  -- what is judged lies in the recording, and has its periods
-  pub run-in-fits : lead night * P (c .order) ≤ length y
-  run-in-fits = omega (arith, e .long, add-mul (lead night) (periodsOf night) (P (c .order)))
-
-  pub judged-long : length (settledOf c night y) ≡ periodsOf night * P (c .order)
-  judged-long = settled-long (P (c .order)) night y (e .long)
-
-  in-range : (j : ℕ) → j < length (settledOf c night y) → sampleOut (at (settledOf c night y) j) ≡ false
-  in-range j l =
-      rw (settled-at (P (c .order)) night y j) (e .ranged (lead night * P (c .order) + j) (omega (arith, length-drop (lead night * P (c .order)) y, run-in-fits)))
-
-  pub judged-ranged : someOut (length (settledOf c night y)) (at (settledOf c night y)) ≡ false
-  judged-ranged = some-none (λ j. sampleOut (at (settledOf c night y) j)) (length (settledOf c night y)) in-range
-
-  pub judged-small : (j : ℕ) → j < length (settledOf c night y) → natAbs (at (settledOf c night y) j) ≤ 8388608
-  judged-small j l = omega (arith, sample-size (at (settledOf c night y) j) (in-range j l))
+-- such a night passes the checks of judging, so that its verdict is that of what is found
+pub judged-found : (c : Campaign) (store sums : List ℤ) (d : ℕ) (night : Night) (y : List ℤ) → first (enterChecks c store sums d night y) ≡ 0
+    → judgedFor c night y ≡ judgedOf (finding (settledOf c night y))
+unfolding tapsAnswer
+judged-found c store sums d night y z =
+    let p = passes (enterChecks c store sums d night y) tt z in
+    let taps = accepted-exactly (c .order) (c .taps) .1 (not-apart c store sums (p .0) .filed .accepted) in
+    judge-found (c .order) (c .taps) night y
+    (passed-first (tapsChecks (c .order) (c .taps)) (nightChecks (c .order) night y) tt taps ∙ accepts (nightChecks (c .order) night y) (p .1 .1 .0, (p .1 .1 .1 .0, (p .1 .1 .1 .1 .0, tt))))

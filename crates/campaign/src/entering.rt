@@ -1,118 +1,97 @@
-// The answer of enter.
+// The answers of file and of enter, which files with the verdict that judging gives.
 use crate::Entered;
-use crate::Entry;
+use crate::Shown;
 use crate::Verdict;
+use crate::days::day_refusal;
+use crate::settling::entered;
+use crate::settling::settle;
 use finding::Finding;
-use finding::looking::look;
-use nights::MOST_PERIODS;
+use judging::Hearing;
+use judging::Judged;
+use judging::listening::hear;
+use judging::verdicts::judged_of;
+use judging::verdicts::same;
 use nights::Night;
-use nights::shape::night_length;
-use nights::shape::periods_of;
-use nights::shape::run_in;
 use records::Campaign;
-use records::DEAD;
-use records::LAST_DAY;
-use records::OVERLOADED;
-use records::STANDING;
-use records::filing::file;
-use records::filing::mark;
-use records::slots::fill_slot;
 use records::tables::day_stands;
-use records::tables::days_in;
-use records::tables::find;
-use records::tables::outside;
-use records::together::holds;
-use register::shift::full_period;
-use samples::range::some_out;
 ghost use mathlib.Core.Path.{_≡_};
+ghost use mathlib.Core.Bool.{not};
 ghost use Rattle.sums.specs.Refusals.{first};
-ghost use Rattle.nights.specs.Nights.{periodsOf};
-ghost use Rattle.campaign.specs.Calls.{enterChecks, termOf, stayedOutcome, foundOutcome, enterOutcome};
+ghost use Rattle.judging.specs.Judging.{foundIn, judgedOf, same as sameVerdict};
+ghost use Rattle.campaign.specs.Calls.{givenChecks, shownAs, shownTo, fileOutcome, enterOutcome};
 
-// The first of 15, 10, 18, 5, 7, 11 that refuses an entry, and 0 where none does.
-fn enter_refusal(c: Campaign, store: &[i32], sums: &[i64], d: u32, night: Night, y: &[i32]) -> u32
-    ensures { λ n. ⌜ n ≡ first (enterChecks c (now (store .entry)) (now (sums .entry)) d night (now (y .entry))) ⌝ }
+// Whether a verdict was handed in and is not that of the finding.
+fn contradicts(shown: Shown, found: Finding) -> bool
+    ensures { λ r. ⌜ r ≡ not (sameVerdict (shownAs (judgedOf found) shown) (judgedOf found)) ⌝ }
 {
-    if !holds(c, store, sums) {
-        return 15;
-    }
-    if outside(d, LAST_DAY) {
-        return 10;
-    }
-    if outside(periods_of(night), MOST_PERIODS) {
-        return 18;
-    }
-    let order = c.order;
-    if y.len() != night_length(night, full_period(order) as usize) {
-        return 5;
-    }
-    if some_out(y) {
-        return 7;
-    }
-    if day_stands(c, d) {
-        return 11;
-    }
-    0
-}
-
-// The record with the verdict beside the day.
-fn entered(c: Campaign, d: u32, verdict: Verdict) -> Entered
-    ensures { λ r. ⌜ r ≡ record { entry = record { day = d; verdict = verdict }; campaign = c } ⌝ }
-{
-    Entered {
-        entry: Entry { day: d, verdict },
-        campaign: c,
+    match shown {
+        Shown::Own => false,
+        Shown::Handed(verdict) => !same(verdict, judged_of(found)),
     }
 }
 
-// The periods of a night with no fault, summed, go to the lowest-numbered free slot and are added to the sums, refusing 12.
-fn keep(
+// A day's night that was heard and found to be this, filed by what was shown of it, refusing 11, 23, and 12 after the verdict.
+fn file_found(
     c: Campaign,
     store: &mut [i32],
     sums: &mut [i64],
     d: u32,
     night: Night,
     y: &[i32],
-) -> Entered
-    requires { ⌜ first (enterChecks c (now store) (now sums) d night (now y)) ≡ 0 ⌝ }
-    ensures { λ r. ⌜ (r, now (store .exit), now (sums .exit)) ≡ stayedOutcome c (now (store .entry)) (now (sums .entry)) d (periodsOf night) (termOf c night (now (y .entry))) ⌝ }
-{
-    let capacity = c.capacity as usize;
-    let days = c.days;
-    if days_in(&days, STANDING) as usize == capacity {
-        return entered(c, d, Verdict::Refused(12));
-    }
-    let slots = c.slots;
-    let s = find(&slots, capacity, 0);
-    let order = c.order;
-    let period = full_period(order) as usize;
-    let from = run_in(night, period);
-    let m = periods_of(night) as u8;
-    fill_slot(s, period, m, &y[from..], store, sums);
-    entered(file(c, d, STANDING, s, d as u16, m), d, Verdict::Kept(s))
-}
-
-// What becomes of a day whose night has passed the checks and is found to be this.
-fn settle(
-    c: Campaign,
-    store: &mut [i32],
-    sums: &mut [i64],
-    d: u32,
-    night: Night,
-    y: &[i32],
+    shown: Shown,
     found: Finding,
 ) -> Entered
-    requires { ⌜ first (enterChecks c (now store) (now sums) d night (now y)) ≡ 0 ⌝ }
-    ensures { λ r. ⌜ (r, now (store .exit), now (sums .exit)) ≡ foundOutcome found c (now (store .entry)) (now (sums .entry)) d (periodsOf night) (termOf c night (now (y .entry))) ⌝ }
+    requires { ⌜ (first (givenChecks c (now store) (now sums) d night (now y)) ≡ 0) × (found ≡ foundIn (c .order) night (now y)) ⌝ }
+    ensures { λ r. ⌜ (r, now (store .exit), now (sums .exit)) ≡ fileOutcome c (now (store .entry)) (now (sums .entry)) d night (now (y .entry)) (shownTo c night (now (y .entry)) shown) ⌝ }
 {
-    match found {
-        Finding::Overloaded(p) => entered(mark(c, d, OVERLOADED), d, Verdict::Overloaded(p)),
-        Finding::Dead => entered(mark(c, d, DEAD), d, Verdict::Dead),
-        Finding::Kept => keep(c, store, sums, d, night, y),
+    if day_stands(c, d) {
+        return entered(c, d, Verdict::Refused(11));
+    }
+    if contradicts(shown, found) {
+        return entered(c, d, Verdict::Refused(23));
+    }
+    settle(c, store, sums, d, night, y, found)
+}
+
+// A day's night filed by what was shown of it, refusing 15, 10, 18, 5, 7, 11, 23, and 12 after the verdict.
+pub fn file_shown(
+    c: Campaign,
+    store: &mut [i32],
+    sums: &mut [i64],
+    d: u32,
+    night: Night,
+    y: &[i32],
+    shown: Shown,
+) -> Entered
+    ensures { λ r. ⌜ (r, now (store .exit), now (sums .exit)) ≡ fileOutcome c (now (store .entry)) (now (sums .entry)) d night (now (y .entry)) (shownTo c night (now (y .entry)) shown) ⌝ }
+{
+    let refusal = day_refusal(c, store, sums, d);
+    if refusal != 0 {
+        return entered(c, d, Verdict::Refused(refusal));
+    }
+    let order = c.order;
+    match hear(order, night, y) {
+        Hearing::Refused(n) => entered(c, d, Verdict::Refused(n)),
+        Hearing::Found(found) => file_found(c, store, sums, d, night, y, shown, found),
     }
 }
 
-// A day's night judged, and kept where it has no fault, refusing 15, 10, 18, 5, 7, 11, and 12 after the verdict.
+// A day's night filed with the verdict that was shown of it, refusing 15, 10, 18, 5, 7, 11, 23, and 12 after the verdict.
+pub fn file(
+    c: Campaign,
+    store: &mut [i32],
+    sums: &mut [i64],
+    d: u32,
+    night: Night,
+    y: &[i32],
+    verdict: Judged,
+) -> Entered
+    ensures { λ r. ⌜ (r, now (store .exit), now (sums .exit)) ≡ fileOutcome c (now (store .entry)) (now (sums .entry)) d night (now (y .entry)) verdict ⌝ }
+{
+    file_shown(c, store, sums, d, night, y, Shown::Handed(verdict))
+}
+
+// A day's night judged and filed in one call, refusing 15, 10, 18, 5, 7, 11, and 12 after the verdict.
 pub fn enter(
     c: Campaign,
     store: &mut [i32],
@@ -123,11 +102,5 @@ pub fn enter(
 ) -> Entered
     ensures { λ r. ⌜ (r, now (store .exit), now (sums .exit)) ≡ enterOutcome c (now (store .entry)) (now (sums .entry)) d night (now (y .entry)) ⌝ }
 {
-    let refusal = enter_refusal(c, store, sums, d, night, y);
-    if refusal != 0 {
-        return entered(c, d, Verdict::Refused(refusal));
-    }
-    let order = c.order;
-    let from = run_in(night, full_period(order) as usize);
-    settle(c, store, sums, d, night, y, look(&y[from..]))
+    file_shown(c, store, sums, d, night, y, Shown::Own)
 }

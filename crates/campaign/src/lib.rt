@@ -1,8 +1,11 @@
-// The calls that change a campaign: start, enter, withdraw.
+// The calls that change a campaign: start, file, enter, withdraw.
+mod days;
 pub mod entering;
+mod settling;
 pub mod starting;
 pub mod withdrawing;
 
+use judging::Judged;
 use records::Campaign;
 use register::Answer;
 
@@ -21,6 +24,14 @@ pub enum Verdict {
     Dead,
     // The refusal's number.
     Refused(u32),
+}
+
+// What a filing goes by.
+pub enum Shown {
+    // No verdict was handed in: judging's own.
+    Own,
+    // The verdict that judging showed before.
+    Handed(Judged),
 }
 
 // An entry's answer: the verdict beside the day.

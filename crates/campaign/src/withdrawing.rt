@@ -1,16 +1,14 @@
 // The answer of withdraw.
 use crate::Withdrawn;
+use crate::days::day_refusal;
 use records::Campaign;
 use records::FREE;
-use records::LAST_DAY;
 use records::NO_PERIODS;
 use records::WITHDRAWN;
 use records::filing::file;
 use records::slots::empty_slot;
 use records::tables::day_stands;
 use records::tables::find;
-use records::tables::outside;
-use records::together::holds;
 use register::shift::full_period;
 ghost use mathlib.Core.Path.{_≡_};
 ghost use Rattle.sums.specs.Refusals.{first};
@@ -20,11 +18,9 @@ ghost use Rattle.campaign.specs.Calls.{withdrawChecks, withdrawOutcome};
 fn withdraw_refusal(c: Campaign, store: &[i32], sums: &[i64], d: u32) -> u32
     ensures { λ n. ⌜ n ≡ first (withdrawChecks c (now (store .entry)) (now (sums .entry)) d) ⌝ }
 {
-    if !holds(c, store, sums) {
-        return 15;
-    }
-    if outside(d, LAST_DAY) {
-        return 10;
+    let refusal = day_refusal(c, store, sums, d);
+    if refusal != 0 {
+        return refusal;
     }
     if !day_stands(c, d) {
         return 13;

@@ -47,7 +47,7 @@ use Rattle.finding.specs.Finding.{spread, finding}
 use Rattle.finding.specs.declared.Finding.{Finding}
 use Rattle.finding.specs.declared.Finding.the-variants as finds
 use Rattle.finding.proofs.Exactly.{Clear, Found, found-exactly}
-use Rattle.nights.specs.Nights.{period, capture, periodsOf, periodsOut, nightLength, term}
+use Rattle.nights.specs.Nights.{period, capture, periodsOf, periodsOut, nightLength, settled, term}
 use Rattle.nights.specs.declared.Night.{Night}
 use Rattle.nights.proofs.Terms.{settled-at, term-at, term-one}
 use Rattle.records.specs.Record.{unseen, standing, overloaded, dead, withdrawn, state, stands, daysIn, slot, periods, periodsStanding, sample, together, apart, fresh, marked, filed}
@@ -55,9 +55,15 @@ use Rattle.records.proofs.Holding.{holds-together}
 use Rattle.records.proofs.Totals.{periods-most}
 use Rattle.records.proofs.Refiling.{Day}
 use Rattle.records.specs.declared.Campaign.{Campaign}
-use Rattle.campaign.specs.Calls.{dayOut, startChecks, startOutcome, settledOf, termOf, entered, enterOutcome, verdictOf, stateOf, keeps, enterAll, withdrawChecks, withdrawOutcome, verdictNumber}
+use Rattle.judging.specs.Judging.{foundIn, judgeChecks, judgedOf, judgeOutcome, judging, judgedNumber}
+use Rattle.judging.specs.declared.Judged.{Judged}
+use Rattle.judging.specs.declared.Judged.the-variants as judged
+use Rattle.judging.specs.declared.Judgement.{Judgement}
+use Rattle.judging.proofs.Judgements.{finding-accepts, judge-first, judge-told, judged-exactly}
+use Rattle.campaign.specs.Calls.{dayOut, startChecks, startOutcome, enterChecks, judgedFor, settledOf, termOf, entered, fileOutcome, enterOutcome, handed, verdictOf, stateOf, keeps, fileAll, enterAll, withdrawChecks, withdrawOutcome, verdictNumber}
+use Rattle.campaign.specs.declared.Shown.{Shown}
 use Rattle.campaign.specs.declared.Started.{Started}
-use Rattle.campaign.proofs.EntryCases.{entry-first, entry-refused, verdict-exactly}
+use Rattle.campaign.proofs.EntryCases.{file-first, file-refused, twenty-three, other, unslotted, as-shown, refusal-shown, entry-first, entry-verdict}
 use Rattle.campaign.proofs.Passing.{start-tells}
 use Rattle.campaign.specs.declared.Entered.{Entered}
 use Rattle.campaign.specs.declared.Withdrawn.{Withdrawn}
@@ -69,7 +75,7 @@ use Rattle.trend.specs.declared.Counts.the-variants as counts
 use Rattle.trend.specs.declared.Levels.{Levels}
 use Rattle.trend.specs.declared.Summary.{Summary}
 use Rattle.trend.specs.declared.Summary.the-variants as summary
-use Rattle.history.specs.Run.{World, Call, after, answer, run, underWay, begun, makes, made, termAt, heard, Elsewhere}
+use Rattle.history.specs.Run.{World, Call, names, after, answer, run, underWay, begun, makes, made, termAt, heard, Elsewhere}
 use Rattle.history.specs.Run as call
 use Rattle.history.proofs.UnderWay.{from-start}
 use Rattle.history.proofs.EveryRun as every-run
@@ -78,7 +84,7 @@ use Rattle.history.proofs.ExactLevels.{Exact, levels-carried}
 use Rattle.demands.specs.Buffers.{KeepsTail, Cleared}
 use Rattle.sums.proofs.First.{answers-first, refused-same, either-0, or-exactly, ltb-exactly, exactly, passed-over}
 use Rattle.demands.proofs.Checking.{refused-leaves}
-use Rattle.demands.proofs.Tails.{sequence-tail, recording-tails, prediction-tail, prediction-in-room-tails, start-tails, enter-tails, withdraw-tails, response-tails, summary-tails}
+use Rattle.demands.proofs.Tails.{sequence-tail, recording-tails, prediction-tail, prediction-in-room-tails, start-tails, file-tails, withdraw-tails, response-tails, summary-tails}
 use Rattle.demands.proofs.Clearing.{recording-clears, response-clears, summary-clears}
 use Rattle.demands.proofs.Measuring.{sequence-at, response-at, response-small, prediction-at, prediction-in-room-at}
 
@@ -86,7 +92,7 @@ use Rattle.demands.proofs.Measuring.{sequence-at, response-at, response
 -- no other. A refused call changes nothing in the caller's memory or record."
 --
 -- A function with a proved contract ends, and each contract is an equation to the outcome function named here. `advance` has step's and `fill` play's.
--- `enterAll` are the checks of an entry, 12 among them: the verdict is kept and C days stand.
+-- `fileAll` are the checks of a filing that is handed the verdict v, and `enterAll` those of an entry: 12 among them, the verdict is kept and C days stand.
 
 -- the checks come in this order; the answer's number is that of the first whose test holds, 0 where none does; a refused call hands back what came in
 pub record Checked {A : Type 0} (order : List ℕ) (checks : List (ℕ × Bool)) (number : A → ℕ) (back : ℕ → A) (o : A) : Type 0 where
@@ -115,6 +121,12 @@ pub record Refusals : Type 0 where
   pub start : (c : Campaign) (N taps C : ℕ) (store sums : List ℤ)
       → Checked (1 ∷ 2 ∷ 3 ∷ 4 ∷ 9 ∷ 6 ∷ []) (startChecks N taps C store sums) (λ (o : Started × List ℤ × List ℤ). o .0 .answer .number)
       (λ n. (record { answer = answerOf N taps n; campaign = c }, store, sums)) (startOutcome c N taps C store sums)
+  pub judge : (N taps : ℕ) (night : Night) (y : List ℤ)
+      → Checked (1 ∷ 2 ∷ 3 ∷ 4 ∷ 18 ∷ 5 ∷ 7 ∷ []) (judgeChecks N taps night y) (λ (j : Judgement). judgedNumber (j .verdict))
+      (λ n. record { verdict = judged.Refused n; period = told N taps n 0 }) (judgeOutcome N taps night y)
+  pub file : (c : Campaign) (store sums : List ℤ) (d : ℕ) (night : Night) (y : List ℤ) (v : Judged)
+      → Checked (15 ∷ 10 ∷ 18 ∷ 5 ∷ 7 ∷ 11 ∷ 23 ∷ 12 ∷ []) (fileAll c store sums d night y v) (λ (o : Entered × List ℤ × List ℤ). verdictNumber (o .0 .entry .verdict))
+      (λ n. (entered c d (verdict.Refused n), store, sums)) (fileOutcome c store sums d night y v)
   pub enter : (c : Campaign) (store sums : List ℤ) (d : ℕ) (night : Night) (y : List ℤ)
       → Checked (15 ∷ 10 ∷ 18 ∷ 5 ∷ 7 ∷ 11 ∷ 12 ∷ []) (enterAll c store sums d night y) (λ (o : Entered × List ℤ × List ℤ). verdictNumber (o .0 .entry .verdict))
       (λ n. (entered c d (verdict.Refused n), store, sums)) (enterOutcome c store sums d night y)
@@ -140,7 +152,7 @@ pub record Tails : Type 0 where
       KeepsTail (P N) out (o .1) × KeepsTail (P N + 1) room (o .2)
   pub start : (c : Campaign) (N taps C : ℕ) (store sums : List ℤ) → let o = startOutcome c N taps C store sums in
       KeepsTail (C * P N) store (o .1) × KeepsTail (P N) sums (o .2)
-  pub enter : (c : Campaign) (store sums : List ℤ) (d : ℕ) (night : Night) (y : List ℤ) → let o = enterOutcome c store sums d night y in
+  pub file : (c : Campaign) (store sums : List ℤ) (d : ℕ) (night : Night) (y : List ℤ) (v : Judged) → let o = fileOutcome c store sums d night y v in
       KeepsTail (c .capacity * P (c .order)) store (o .1) × KeepsTail (P (c .order)) sums (o .2)
   pub withdraw : (c : Campaign) (store sums : List ℤ) (d : ℕ) → let o = withdrawOutcome c store sums d in
       KeepsTail (c .capacity * P (c .order)) store (o .1) × KeepsTail (P (c .order)) sums (o .2)
@@ -160,7 +172,7 @@ checked order checks number back accepted e told none =
     }
 
 pub demand-1 : Refusals × Tails
-unfolding tapsAnswer sequenceOutcome defaultOutcome newOutcome stepOutcome playOutcome recordingOutcome predictionOutcome roomedOutcome startOutcome withdrawOutcome countsOutcome responseOutcome summaryOutcome
+unfolding tapsAnswer sequenceOutcome defaultOutcome newOutcome stepOutcome playOutcome recordingOutcome predictionOutcome roomedOutcome startOutcome judgeOutcome withdrawOutcome countsOutcome responseOutcome summaryOutcome
 demand-1 = (
   record {
     taps-check = λ N taps. record { in-order = refl; answer = refl; unchanged = λ _. refl };
@@ -173,8 +185,11 @@ demand-1 = (
     prediction-in-room = λ N taps h out room. checked _ _ _ _ _ refl (λ n. refl) refl;
     default-taps = λ N. checked _ _ _ _ _ refl (λ n. refl) refl;
     start = λ c N taps C store sums. checked _ _ _ _ _ refl (λ n. refl) refl;
+    judge = λ N taps night y. checked _ _ _ _ _ refl (λ n. refl) (finding-accepts (foundIn N night y));
+    file = λ c store sums d night y v.
+        record { in-order = refl; answer = file-first c store sums d night y v; unchanged = file-refused c store sums d night y v };
     enter = λ c store sums d night y.
-        record { in-order = refl; answer = entry-first c store sums d night y; unchanged = entry-refused c store sums d night y };
+        record { in-order = refl; answer = entry-first c store sums d night y; unchanged = file-refused c store sums d night y (judgedFor c night y) };
     withdraw = λ c store sums d. checked _ _ _ _ _ refl (λ n. refl) refl;
     counts = λ c store sums. checked _ _ _ _ _ refl (λ n. refl) refl;
     response = λ c store sums r mean room tags. checked _ _ _ _ _ refl (λ n. refl) refl;
@@ -186,7 +201,7 @@ demand-1 = (
     prediction = prediction-tail;
     prediction-in-room = prediction-in-room-tails;
     start = start-tails;
-    enter = enter-tails;
+    file = file-tails;
     withdraw = withdraw-tails;
     response = response-tails;
     summary = summary-tails;
@@ -242,6 +257,7 @@ pub record Periods : Type 0 where
   pub prediction-in-room : (N taps was : ℕ) (h out room : List ℤ) → let n = roomedOutcome N taps h out room .0 in Tells N taps n (told N taps n was) was
   pub start : (c : Campaign) (N taps C : ℕ) (store sums : List ℤ) → let a = startOutcome c N taps C store sums .0 .answer in
       Tells N taps (a .number) (a .period) 0
+  pub judge : (N taps : ℕ) (night : Night) (y : List ℤ) → let j = judgeOutcome N taps night y in Tells N taps (judgedNumber (j .verdict)) (j .period) 0
 
 pub how-short : Periods
 unfolding tapsAnswer sequenceOutcome recordingOutcome predictionOutcome roomedOutcome
@@ -258,6 +274,8 @@ how-short =
           short.how-short-by N taps (roomedChecks N taps h out room) refl (λ (o : ℕ × List ℤ × List ℤ). o .0) _ _ (λ n. refl) refl refl tt was;
       start = λ c N taps C store sums.
           rw (start-tells c N taps C store sums) (short.how-short N taps (startChecks N taps C store sums) refl tt 0);
+      judge = λ N taps night y.
+          rw (judge-told N taps night y, judge-first N taps night y) (short.how-short N taps (judgeChecks N taps night y) refl tt 0);
     }
 
 -- ---- Document 02: "Turning one recording, a response and a summary must work with P tags instead of 2P, and P+1 wide numbers as now. Show that every order
@@ -313,7 +331,7 @@ half-the-tags =
 -- where one is. `Found y f` says of the samples what the finding f means: of Overloaded p `FirstAtRail y p`, of Dead `Clear y` and `Near`, of Kept `Clear y`
 -- and `Apart`. Every recording has one finding and only one (`found`). An entry is judged by
 -- its samples after the run-in, `settledOf c night y`, which are all where it has none. It has its verdict exactly where no check refuses (`given`; `dead` is its case
--- of Dead), and an accepted one makes of its day the state that goes with it (`day`), by which demand 3 goes.
+-- of Dead), and an accepted one, as every filing, makes of its day the state that goes with it (`day`), by which demand 3 goes.
 
 pub record Verdicts : Type 0 where
   pub no-two : (y : List ℤ) → (leZ (spread y) (pos 7) ≡ true) ↔ Near 7 (length y) (at y)
@@ -324,8 +342,8 @@ pub record Verdicts : Type 0 where
   pub dead : (c : Campaign) (store sums : List ℤ) (d : ℕ) (night : Night) (y : List ℤ) → let z = settledOf c night y in
       (enterOutcome c store sums d night y .0 .entry .verdict ≡ verdict.Dead)
       ↔ ((first (enterAll c store sums d night y) ≡ 0) × (Clear z × Near 7 (length z) (at z)))
-  pub day : (w : World) (d : ℕ) (night : Night) (y : List ℤ) (f : Finding) → Found (settledOf (w .campaign) night y) f
-      → makes w (call.enter d night y) ≡ stateOf f
+  pub day : (w : World) (d : ℕ) (night : Night) (y : List ℤ) (s : Shown) (f : Finding) → Found (settledOf (w .campaign) night y) f
+      → makes w (call.file d night y s) ≡ stateOf f
 
 pub never-still : Verdicts
 never-still =
@@ -334,14 +352,14 @@ never-still =
       found = found-exactly;
       given = said-of;
       dead = λ c store sums d night y. said-of c store sums d night y finds.Dead;
-      day = λ w d night y f h. ap stateOf (found-exactly (settledOf (w .campaign) night y) f .1 h);
+      day = λ w d night y s f h. ap stateOf (found-exactly (settledOf (w .campaign) night y) f .1 h);
     }
   where
     said-of : (c : Campaign) (store sums : List ℤ) (d : ℕ) (night : Night) (y : List ℤ) (f : Finding)
         → (enterOutcome c store sums d night y .0 .entry .verdict ≡ verdictOf c f)
         ↔ ((first (enterAll c store sums d night y) ≡ 0) × Found (settledOf c night y) f)
     said-of c store sums d night y f =
-        let v = verdict-exactly c store sums d night y f in
+        let v = entry-verdict c store sums d night y f in
         let w = found-exactly (settledOf c night y) f in
         (λ q. (v .0 q .0, w .0 (v .0 q .1)), λ h. v .1 (h .0, w .1 (h .1)))
 
@@ -351,7 +369,7 @@ never-still =
 -- and the levels are exact where that total is a power of two. … Refusals: 18 for m out of range, after 10".
 --
 -- An entry is given a night, `period` or `capture m`, and its samples y. `settledOf c night y` are those after the run-in and `termOf c night y` their
--- periods summed, which `enterOutcome` puts into the slot with `periodsOf night`. `periods c s` is the m of slot s, `periodsStanding c` the total of
+-- periods summed, which `fileOutcome` puts into the slot with `periodsOf night`. `periods c s` is the m of slot s, `periodsStanding c` the total of
 -- them, and `divisor c` is (P+1) times that total.
 
 pub record Nights : Type 0 where
@@ -408,6 +426,58 @@ several-periods =
   where
     nothing-dropped : (c : Campaign) (y : List ℤ) → settledOf c period y ≡ y
     nothing-dropped c y = ap (λ n. drop n y) (zero-mul (P (c .order)))
+
+-- ---- Document 02: "Split entering in two: judging reads the recording and writes nothing; filing takes the recording and the verdict shown and does what
+-- entering did. A judged verdict says kept without a slot. … Demand 3 counts a filing where it counted an entry …; a call that still does both … is a
+-- filing with the verdict that judging gives. A judgement is not a call that names a day. Refusals: 23 when the verdict handed to filing is not what judging
+-- gives for that recording, just before 12; judging refuses 1, 2, 3, 4, 18, 5, 7 in that order."
+--
+-- `judgeOutcome` has no record, day or memory to write. `judging N taps night y` is its verdict, and `judgedOf f` the verdict of the finding f, which has no slot.
+-- `enterChecks` are 15, 10, 18, 5, 7, 11: 23 comes exactly where they pass and the verdict is another, whatever its case or place (`twenty-three`). The order of
+-- both lists of checks is in `Refusals` above. `unslotted` takes the slot from a filed verdict. Demand 3 below is over runs in which `call.file` stands where
+-- `call.enter` stood, and an entry is such a call (`entry`).
+
+pub record Judgements : Type 0 where
+  pub given : (N taps : ℕ) (night : Night) (y : List ℤ) (f : Finding)
+      → (judging N taps night y ≡ judgedOf f) ↔ ((first (judgeChecks N taps night y) ≡ 0) × Found (settled (P N) night y) f)
+  pub then-filed : (c : Campaign) (store sums : List ℤ) (d : ℕ) (night : Night) (y : List ℤ)
+      → fileOutcome c store sums d night y (judgeOutcome (c .order) (c .taps) night y .verdict) ≡ enterOutcome c store sums d night y
+  pub as-shown : (c : Campaign) (store sums : List ℤ) (d : ℕ) (night : Night) (y : List ℤ) (v : Judged) → let o = fileOutcome c store sums d night y v in
+      verdictNumber (o .0 .entry .verdict) ≡ 0 → unslotted (o .0 .entry .verdict) ≡ v
+  pub twenty-three : (c : Campaign) (store sums : List ℤ) (d : ℕ) (night : Night) (y : List ℤ) (v : Judged)
+      → (verdictNumber (fileOutcome c store sums d night y v .0 .entry .verdict) ≡ 23)
+      ↔ ((first (enterChecks c store sums d night y) ≡ 0) × (v ≡ judging (c .order) (c .taps) night y → ⊥))
+  pub other : (c : Campaign) (store sums : List ℤ) (d : ℕ) (night : Night) (y : List ℤ) (v : Judged) → first (enterChecks c store sums d night y) ≡ 0
+      → (v ≡ judging (c .order) (c .taps) night y → ⊥) → fileOutcome c store sums d night y v ≡ (entered c d (verdict.Refused 23), store, sums)
+  -- a refusal that is handed in is never what judging gives there
+  pub refusal : (c : Campaign) (store sums : List ℤ) (d : ℕ) (night : Night) (y : List ℤ) (n : ℕ) → first (enterChecks c store sums d night y) ≡ 0
+      → fileOutcome c store sums d night y (judged.Refused n) ≡ (entered c d (verdict.Refused 23), store, sums)
+  -- where the verdict is right, 23 never comes
+  pub right : (c : Campaign) (store sums : List ℤ) (d : ℕ) (night : Night) (y : List ℤ) (v : Judged) → v ≡ judging (c .order) (c .taps) night y
+      → verdictNumber (fileOutcome c store sums d night y v .0 .entry .verdict) ≡ 23 → ⊥
+  -- in a run
+  pub leaves : (w : World) (N taps : ℕ) (night : Night) (y : List ℤ) → after w (call.judge N taps night y) ≡ w
+  pub names-none : (N taps : ℕ) (night : Night) (y : List ℤ) (d : ℕ) → names (call.judge N taps night y) d ≡ false
+  pub entry : (w : World) (d : ℕ) (night : Night) (y : List ℤ) → let v = judging (w .campaign .order) (w .campaign .taps) night y in
+      (after w (call.enter d night y) ≡ after w (call.file d night y (handed v))) × (answer w (call.enter d night y) ≡ answer w (call.file d night y (handed v)))
+
+pub judge-first-file-later : Judgements
+judge-first-file-later =
+    record {
+      given = λ N taps night y f.
+          let w = found-exactly (settled (P N) night y) f in
+          let q = judged-exactly N taps night y f in
+          (λ e. (q .0 e .0, w .0 (q .0 e .1)), λ h. q .1 (h .0, w .1 (h .1)));
+      then-filed = λ c store sums d night y. refl;
+      as-shown = as-shown;
+      twenty-three = twenty-three;
+      other = other;
+      refusal = refusal-shown;
+      right = λ c store sums d night y v e h. twenty-three c store sums d night y v .0 h .1 e;
+      leaves = λ w N taps night y. refl;
+      names-none = λ N taps night y d. refl;
+      entry = λ w d night y. (refl, refl);
+    }
 
 -- ---- 3. "After any run of calls from a fresh campaign, refused ones included and its lent memory untouched between, each day's state is what the last
 -- accepted call naming that day made it, or unseen if there was none. The sums total, place by place, the last recordings accepted for exactly the days
@@ -477,37 +547,38 @@ demand-3 w₀ N taps C e cs = said _ _ (from-start w₀ N taps C e cs)
 -- ---- Document 01: "A kept entry followed at once by its withdrawal gives back store, sums and slots bit for bit. With calls on other days between, the sums
 -- and the set of standing days are as if it had not come, provided none of those calls was refused with 12; slots may differ."
 --
--- At once the table of m is back as well. `makes` is what an accepted call makes of its day: standing, so the entry is kept. `Elsewhere`: the calls between name other days than d, and none of
+-- At once the table of m is back as well. It holds of every filing, by whatever verdict, and so of an entry. `makes` is what an accepted call makes of its day: standing, so it is kept. `Elsewhere`: the calls between name other days than d, and none of
 -- them is refused with 12.
 
-pub record TakenBack (w₀ : World) (cs : List Call) (d : ℕ) (night : Night) (y : List ℤ) : Type 0 where
-  pub at-once : let w = run w₀ (call.withdraw d ∷ call.enter d night y ∷ cs) in
+pub record TakenBack (w₀ : World) (cs : List Call) (d : ℕ) (night : Night) (y : List ℤ) (s : Shown) : Type 0 where
+  pub at-once : let w = run w₀ (call.withdraw d ∷ call.file d night y s ∷ cs) in
       (w .store ≡ run w₀ cs .store) × (w .sums ≡ run w₀ cs .sums) × (w .campaign .slots ≡ run w₀ cs .campaign .slots)
       × (w .campaign .periods ≡ run w₀ cs .campaign .periods)
-  pub as-if : (between : List Call) → Elsewhere w₀ d (call.enter d night y ∷ cs) between
-      → let with-it = run w₀ (call.withdraw d ∷ between ++ call.enter d night y ∷ cs) in
+  pub as-if : (between : List Call) → Elsewhere w₀ d (call.file d night y s ∷ cs) between
+      → let with-it = run w₀ (call.withdraw d ∷ between ++ call.file d night y s ∷ cs) in
       let without-it = run w₀ (between ++ cs) in
-      (answer (run w₀ (between ++ call.enter d night y ∷ cs)) (call.withdraw d) ≡ 0)
+      (answer (run w₀ (between ++ call.file d night y s ∷ cs)) (call.withdraw d) ≡ 0)
       × ((j : ℕ) → j < P (begun w₀ cs .order) → at (with-it .sums) j ≡ at (without-it .sums) j)
       × ((e : ℕ) → 1 ≤ e → e ≤ 366 → stands (with-it .campaign) e ≡ stands (without-it .campaign) e)
 
-pub taken-back : (w₀ : World) (cs : List Call) → underWay w₀ cs ≡ true → (d : ℕ) → 1 ≤ d → d ≤ 366 → (night : Night) (y : List ℤ)
-    → answer (run w₀ cs) (call.enter d night y) ≡ 0 → makes (run w₀ cs) (call.enter d night y) ≡ standing → TakenBack w₀ cs d night y
+pub taken-back : (w₀ : World) (cs : List Call) → underWay w₀ cs ≡ true → (d : ℕ) → 1 ≤ d → d ≤ 366 → (night : Night) (y : List ℤ) (s : Shown)
+    → answer (run w₀ cs) (call.file d night y s) ≡ 0 → makes (run w₀ cs) (call.file d night y s) ≡ standing → TakenBack w₀ cs d night y s
 unfolding run
-taken-back w₀ cs u d a b night y e k =
+taken-back w₀ cs u d a b night y s e k =
     let r : Day d = record { first = a; last = b } in
-    let o = as-if.at-once w₀ cs u d night y r e k in
+    let o = as-if.at-once w₀ cs u d night y s r e k in
     record {
       at-once = (o .store, o .sums, o .slots, o .periods);
       as-if = λ between n.
-          let s = as-if.as-if w₀ cs u d night y r e k between n in (
-            s .0,
-            s .1 .sums,
-            λ i l h. s .1 .days i (record { first = l; last = h }),
+          let t = as-if.as-if w₀ cs u d night y s r e k between n in (
+            t .0,
+            t .1 .sums,
+            λ i l h. t .1 .days i (record { first = l; last = h }),
           );
     }
 
--- ---- It is about something: order 2, taps 3, two slots, on memory that held nines; two nights, of which the second is a capture of two periods, the first withdrawn; computed.
+-- ---- It is about something: order 2, taps 3, two slots, on memory that held nines; two nights, of which the second is a capture of two periods that is judged
+-- first and then filed, the first withdrawn; computed.
 
 -- the convolution of 9, 0, -4 with the sequence 1, 1, 0
 abbrev pub night-1 : List ℤ
@@ -522,7 +593,7 @@ abbrev pub night-3 : List ℤ
 night-3 = pos 0 ∷ pos 7 ∷ pos 3 ∷ []
 
 abbrev pub nights : List Call
-nights = call.enter 2 (capture 2) night-2 ∷ call.enter 1 period night-1 ∷ call.start 2 3 2 ∷ []
+nights = call.file 2 (capture 2) night-2 (handed judged.Kept) ∷ call.judge 2 3 (capture 2) night-2 ∷ call.enter 1 period night-1 ∷ call.start 2 3 2 ∷ []
 
 -- what is lent, and what the start, each night and the withdrawal make of it
 abbrev pub lent : World
@@ -575,7 +646,11 @@ pub record Witness : Type 0 where
   pub started : startOutcome (lent .campaign) 2 3 2 (lent .store) (lent .sums) .0 .answer .number ≡ 0
   pub begins : run lent (call.start 2 3 2 ∷ []) ≡ began
   pub first-night : (answer began (call.enter 1 period night-1) ≡ 0) × (run lent (call.enter 1 period night-1 ∷ call.start 2 3 2 ∷ []) ≡ one-night)
-  pub second-night : (answer one-night (call.enter 2 (capture 2) night-2) ≡ 0) × (run lent nights ≡ two-nights)
+  pub second-judged : judgeOutcome 2 3 (capture 2) night-2 ≡ record { verdict = judged.Kept; period = 3 }
+  pub second-night : (answer one-night (call.file 2 (capture 2) night-2 (handed judged.Kept)) ≡ 0) × (run lent nights ≡ two-nights)
+  -- another verdict is refused, and all is as it was
+  pub second-otherwise : (answer one-night (call.file 2 (capture 2) night-2 (handed judged.Dead)) ≡ 23)
+      × (after one-night (call.file 2 (capture 2) night-2 (handed judged.Dead)) ≡ one-night)
   pub both : asked two-nights ≡ (0, pos 60 ∷ pos 4 ∷ negsuc 11 ∷ pos 9 ∷ [], pos 5 ∷ pos 0 ∷ negsuc 0 ∷ [], replicate 4 (pos 0), half-zeros)
   -- a third night is dead, and store and sums stay
   pub quiet-night : (answer two-nights (call.enter 3 period night-3) ≡ 0)
@@ -602,16 +677,25 @@ unfolding startOutcome register.period seek table put window step dot ones
 start-computed = (refl, refl)
 
 first-computed : (answer began (call.enter 1 period night-1) ≡ 0) × (after began (call.enter 1 period night-1) ≡ one-night)
-unfolding enterOutcome term finding together tapsAnswer register.period seek some every many total sum table put putAt window step dot ones
+unfolding fileOutcome judgeOutcome term finding together tapsAnswer register.period seek some every many total sum table put putAt window step dot ones
 first-computed = (refl, refl)
 
-second-computed : (answer one-night (call.enter 2 (capture 2) night-2) ≡ 0) × (after one-night (call.enter 2 (capture 2) night-2) ≡ two-nights)
-unfolding enterOutcome term finding together tapsAnswer register.period seek some every many total sum table put putAt window step dot ones
+judged-computed : judgeOutcome 2 3 (capture 2) night-2 ≡ record { verdict = judged.Kept; period = 3 }
+unfolding judgeOutcome finding register.period seek some every window step dot ones
+judged-computed = refl
+
+second-computed : (answer one-night (call.file 2 (capture 2) night-2 (handed judged.Kept)) ≡ 0) × (after one-night (call.file 2 (capture 2) night-2 (handed judged.Kept)) ≡ two-nights)
+unfolding fileOutcome judgeOutcome term finding together tapsAnswer register.period seek some every many total sum table put putAt window step dot ones
 second-computed = (refl, refl)
+
+otherwise-computed : (answer one-night (call.file 2 (capture 2) night-2 (handed judged.Dead)) ≡ 23)
+    × (after one-night (call.file 2 (capture 2) night-2 (handed judged.Dead)) ≡ one-night)
+unfolding fileOutcome judgeOutcome term finding together tapsAnswer register.period seek some every many total sum table put putAt window step dot ones
+otherwise-computed = (refl, refl)
 
 quiet-computed : (answer two-nights (call.enter 3 period night-3) ≡ 0)
     × (after two-nights (call.enter 3 period night-3) ≡ one-dead)
-unfolding enterOutcome term finding together tapsAnswer register.period seek some every many total sum table put putAt window step dot ones
+unfolding fileOutcome judgeOutcome term finding together tapsAnswer register.period seek some every many total sum table put putAt window step dot ones
 quiet-computed = (refl, refl)
 
 withdrawal-computed : (answer two-nights (call.withdraw 1) ≡ 0) × (after two-nights (call.withdraw 1) ≡ one-left)
@@ -624,7 +708,7 @@ unfolding run
 led =
     let a = start-computed .1 in
     let b = ap (λ w. after w (call.enter 1 period night-1)) a ∙ first-computed .1 in
-    let c = ap (λ w. after w (call.enter 2 (capture 2) night-2)) b ∙ second-computed .1 in
+    let c = ap (λ w. after w (call.file 2 (capture 2) night-2 (handed judged.Kept))) b ∙ second-computed .1 in
     (a, b, c, ap (λ w. after w (call.withdraw 1)) c ∙ withdrawal-computed .1)
 
 pub witness : Witness
@@ -634,7 +718,9 @@ witness =
       started = start-computed .0;
       begins = led .0;
       first-night = (first-computed .0, led .1);
+      second-judged = judged-computed;
       second-night = (second-computed .0, led .2);
+      second-otherwise = otherwise-computed;
       both = refl;
       quiet-night = quiet-computed;
       withdrawal = (withdrawal-computed .0, led .3);
@@ -647,5 +733,5 @@ witness =
   where
     day : (d : ℕ) → 1 ≤ d → d ≤ 366 → made lent (call.withdraw 1 ∷ nights) d ≡ state (one-left .campaign) d
     day d a b =
-        sym (demand-3 lent 2 3 2 (start-computed .0) (call.withdraw 1 ∷ call.enter 2 (capture 2) night-2 ∷ call.enter 1 period night-1 ∷ []) .each-day d a b)
+        sym (demand-3 lent 2 3 2 (start-computed .0) (call.withdraw 1 ∷ call.file 2 (capture 2) night-2 (handed judged.Kept) ∷ call.judge 2 3 (capture 2) night-2 ∷ call.enter 1 period night-1 ∷ []) .each-day d a b)
         ∙ ap (λ w. state (w .campaign) d) (led .3)

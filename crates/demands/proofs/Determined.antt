@@ -31,10 +31,18 @@ use Rattle.meter.proofs.recordings.meter_predict_in_room.Kinds as predict-in-ro
 use Rattle.meter.proofs.recordings.meter_predict_in_room.Reads as predict-in-room
 use Rattle.meter.proofs.campaigns.meter_start.Kinds as start-kinds
 use Rattle.meter.proofs.campaigns.meter_start.Reads as start
-use Rattle.meter.proofs.campaigns.meter_enter.Kinds as enter-kinds
-use Rattle.meter.proofs.campaigns.meter_enter.Reads as enter
-use Rattle.meter.proofs.campaigns.meter_capture.Kinds as capture-kinds
-use Rattle.meter.proofs.campaigns.meter_capture.Reads as capture
+use Rattle.meter.proofs.filing.meter_enter.Kinds as enter-kinds
+use Rattle.meter.proofs.filing.meter_enter.Reads as enter
+use Rattle.meter.proofs.filing.meter_capture.Kinds as capture-kinds
+use Rattle.meter.proofs.filing.meter_capture.Reads as capture
+use Rattle.meter.proofs.filing.meter_file.Kinds as file-kinds
+use Rattle.meter.proofs.filing.meter_file.Reads as file
+use Rattle.meter.proofs.filing.meter_file_capture.Kinds as file-capture-kinds
+use Rattle.meter.proofs.filing.meter_file_capture.Reads as file-capture
+use Rattle.meter.proofs.judgements.meter_judge.Kinds as judge-kinds
+use Rattle.meter.proofs.judgements.meter_judge.Reads as judge
+use Rattle.meter.proofs.judgements.meter_judge_capture.Kinds as judge-capture-kinds
+use Rattle.meter.proofs.judgements.meter_judge_capture.Reads as judge-capture
 use Rattle.meter.proofs.campaigns.meter_withdraw.Kinds as withdraw-kinds
 use Rattle.meter.proofs.campaigns.meter_withdraw.Reads as withdraw
 use Rattle.meter.proofs.campaigns.meter_counts.Kinds as counts-kinds
@@ -86,6 +94,22 @@ enter-determined κs a x y s t p q = p ∙ sym q
 pub capture-determined : Determined 8 capture-kinds.ps capture-kinds.r (ℕ × List ℕ × List ℕ × List ℕ × List ℤ × List ℤ × ℕ × ℕ) capture.Learnt
     (λ κs r s. (r, now (s .1 .1 .1 .0), now (s .1 .1 .1 .1 .0), now (s .1 .1 .1 .1 .1 .0), now (s .1 .1 .1 .1 .1 .1 .0), now (s .1 .1 .1 .1 .1 .1 .1 .0), now (s .1 .1 .1 .1 .1 .1 .1 .1 .1 .1 .1 .0), now (s .1 .1 .1 .1 .1 .1 .1 .1 .1 .1 .1 .1 .0)))
 capture-determined κs a x y s t p q = p ∙ sym q
+
+pub file-determined : Determined 8 file-kinds.ps file-kinds.r (ℕ × List ℕ × List ℕ × List ℕ × List ℤ × List ℤ × ℕ × ℕ) file.Learnt
+    (λ κs r s. (r, now (s .1 .1 .1 .0), now (s .1 .1 .1 .1 .0), now (s .1 .1 .1 .1 .1 .0), now (s .1 .1 .1 .1 .1 .1 .0), now (s .1 .1 .1 .1 .1 .1 .1 .0), now (s .1 .1 .1 .1 .1 .1 .1 .1 .1 .1 .1 .1 .0), now (s .1 .1 .1 .1 .1 .1 .1 .1 .1 .1 .1 .1 .1 .0)))
+file-determined κs a x y s t p q = p ∙ sym q
+
+pub file-capture-determined : Determined 8 file-capture-kinds.ps file-capture-kinds.r (ℕ × List ℕ × List ℕ × List ℕ × List ℤ × List ℤ × ℕ × ℕ) file-capture.Learnt
+    (λ κs r s. (r, now (s .1 .1 .1 .0), now (s .1 .1 .1 .1 .0), now (s .1 .1 .1 .1 .1 .0), now (s .1 .1 .1 .1 .1 .1 .0), now (s .1 .1 .1 .1 .1 .1 .1 .0), now (s .1 .1 .1 .1 .1 .1 .1 .1 .1 .1 .1 .1 .1 .0), now (s .1 .1 .1 .1 .1 .1 .1 .1 .1 .1 .1 .1 .1 .1 .0)))
+file-capture-determined κs a x y s t p q = p ∙ sym q
+
+pub judge-determined : Determined 4 judge-kinds.ps judge-kinds.r ((ℕ × ℕ × ℕ) × ℕ) judge.Learnt
+    (λ κs r s. ((r, now (s .1 .1 .1 .0), now (s .1 .1 .1 .1 .0)), now (s .1 .1 .1 .1 .1 .0)))
+judge-determined κs a x y s t p q = same-told (a .0) (a .1 .0) (now (a .1 .1 .1 .1 .1 .0)) (λ (o : ℕ × ℕ × ℕ). o .0) p q
+
+pub judge-capture-determined : Determined 4 judge-capture-kinds.ps judge-capture-kinds.r ((ℕ × ℕ × ℕ) × ℕ) judge-capture.Learnt
+    (λ κs r s. ((r, now (s .1 .1 .1 .1 .0), now (s .1 .1 .1 .1 .1 .0)), now (s .1 .1 .1 .1 .1 .1 .0)))
+judge-capture-determined κs a x y s t p q = same-told (a .0) (a .1 .0) (now (a .1 .1 .1 .1 .1 .1 .0)) (λ (o : ℕ × ℕ × ℕ). o .0) p q
 
 pub withdraw-determined : Determined 5 withdraw-kinds.ps withdraw-kinds.r (ℕ × List ℕ × List ℕ × List ℕ × List ℤ × List ℤ) withdraw.Learnt
     (λ κs r s. (r, now (s .1 .1 .1 .0), now (s .1 .1 .1 .1 .0), now (s .1 .1 .1 .1 .1 .0), now (s .1 .1 .1 .1 .1 .1 .0), now (s .1 .1 .1 .1 .1 .1 .1 .0)))

@@ -1,6 +1,6 @@
 -- The first demand, of a C caller: each door answers the first check that holds, refused it hands back all that was lent, and it leaves what is lent
 -- beyond the lengths that it needs. At a start a short table is among the causes of 6; every other door of a campaign looks at the tables first. And
--- what the doors tell of requests 1, 2, 6 and 7 of document 02. Assumes nothing.
+-- what the doors tell of requests 1, 2, 5, 6 and 7 of document 02. Assumes nothing.
 use mathlib.Core.Path.{_≡_, refl, sym, ap, _∙_}
 use mathlib.Core.Logic.{_↔_, _⊎_}
 use mathlib.Core.Bool.{Bool, true, false}
@@ -12,10 +12,10 @@ use lib.IntN.{ℤ}
 use lib.ListN.{length, length-replicate}
 use Rattle.sums.specs.Lists.{put}
 use Rattle.sums.specs.Refusals.{first, numbers, answered, outcome}
-use Rattle.sums.proofs.First.{exactly}
+use Rattle.sums.proofs.First.{passes, accepts, exactly}
 use Rattle.register.specs.Register.{P}
 use Rattle.register.specs.Calls.{orderOut, told, shapeChecks}
-use Rattle.register.proofs.HowShort.{Tells, how-short-by}
+use Rattle.register.proofs.HowShort.{Tells, how-short, how-short-by}
 use Rattle.player.specs.Calls.{stepChecks}
 use Rattle.player.specs.declared.Player.{Player}
 use Rattle.samples.specs.Samples.{workShort, clearedWide}
@@ -27,18 +27,23 @@ use Rattle.nights.specs.Nights.{settled}
 use Rattle.nights.specs.declared.Night.{Night}
 use Rattle.records.specs.Record.{standing, daysIn, apart, fresh}
 use Rattle.records.specs.declared.Campaign.{Campaign}
-use Rattle.campaign.specs.Calls.{enterAll, verdictOf, stateOf, withdrawChecks, verdictMeans}
-use Rattle.campaign.proofs.EntryCases.{accepted-verdict}
+use Rattle.judging.specs.Judging.{foundIn, judgeChecks, judgedOf, judging}
+use Rattle.judging.specs.declared.Judgement.{Judgement}
+use Rattle.judging.proofs.Judgements.{judge-first, judge-found}
+use Rattle.campaign.specs.Calls.{enterChecks, fileOutcome, own, handed, shownTo, fileAll, enterAll, verdictOf, stateOf, withdrawChecks, verdictMeans}
+use Rattle.campaign.specs.declared.Shown.{Shown}
+use Rattle.campaign.proofs.EntryCases.{accepted-verdict, refusal-shown}
 use Rattle.trend.specs.Calls.{answerShort, responseChecks, summaryChecks}
 use Rattle.trend.proofs.Enough.{answer-short}
 use Rattle.trend.specs.declared.Tally.{Tally}
 use Rattle.trend.specs.declared.Levels.{Levels}
 use Rattle.meter.specs.Players.{defaultOut, defaultDoor, newOut, newDoor, steppedOut, stepDoor, playedOut, playDoor}
-use Rattle.meter.specs.Doors.{tablesShort, recordOf, behind, startDoorChecks, startDoor, enteredOut, enterDoor, withdrawnOut, withdrawDoor, countedOut, countsDoor, responseDoor, summedOut, summaryDoor}
-use Rattle.meter.proofs.Opening.{long, put-backs}
+use Rattle.meter.specs.Doors.{tablesShort, recordOf, behind, startDoorChecks, startDoor, judgedMeans, judgedOut, judgeDoor, pairSays, enteredOut, fileDoor, withdrawnOut, withdrawDoor, countedOut, countsDoor, responseDoor, summedOut, summaryDoor}
+use Rattle.meter.proofs.Opening.{long, opens, put-backs}
+use Rattle.meter.proofs.Showing.{means-number, pairOf, writes-pair, comes-back, no-verdict}
 use Rattle.demands.specs.Buffers.{KeepsTail}
-use Rattle.demands.proofs.Tails.{same, put-tail, written, enter-tails, withdraw-tails, response-tails, summary-tails}
-use Rattle.demands.proofs.Handing.{Handed, enter-handed, withdraw-handed, Long, days-long, slots-long, periods-long}
+use Rattle.demands.proofs.Tails.{same, put-tail, written, file-tails, withdraw-tails, response-tails, summary-tails}
+use Rattle.demands.proofs.Handing.{Handed, file-handed, withdraw-handed, Long, days-long, slots-long, periods-long}
 use Rattle.demands.proofs.Demands.{Checked, checked, demand-1}
 
 -- `meter_taps`, `meter_sequence`, `meter_recording`, `meter_predict` and `meter_predict_in_room` have the calls' own outcome functions, of which
@@ -53,10 +58,17 @@ pub record DoorRefusals : Type 0 where
   pub start : (N taps C : ℕ) (days slots periods : List ℕ) (store sums : List ℤ)
       → Checked (1 ∷ 2 ∷ 3 ∷ 4 ∷ 9 ∷ 6 ∷ []) (startDoorChecks N taps C days slots periods store sums) (λ (o : ℕ × List ℕ × List ℕ × List ℕ × List ℤ × List ℤ). o .0)
       (λ n. (n, days, slots, periods, store, sums)) (startDoor N taps C days slots periods store sums)
+  pub judge : (N taps : ℕ) (night : Night) (y : List ℤ) (state value : ℕ)
+      → Checked (1 ∷ 2 ∷ 3 ∷ 4 ∷ 18 ∷ 5 ∷ 7 ∷ []) (judgeChecks N taps night y) (λ (o : ℕ × ℕ × ℕ). o .0) (λ n. (n, state, value)) (judgeDoor N taps night y state value)
+  pub file : (N taps C : ℕ) (days slots periods : List ℕ) (store sums : List ℤ) (d : ℕ) (night : Night) (y : List ℤ) (x : Shown) (state value : ℕ)
+      → let c = recordOf N taps C days slots periods in
+      Checked (15 ∷ 15 ∷ 10 ∷ 18 ∷ 5 ∷ 7 ∷ 11 ∷ 23 ∷ 12 ∷ []) ((15, tablesShort days slots periods) ∷ fileAll c store sums d night y (shownTo c night y x))
+      (λ (o : ℕ × List ℕ × List ℕ × List ℕ × List ℤ × List ℤ × ℕ × ℕ). o .0) (λ n. (n, days, slots, periods, store, sums, state, value))
+      (fileDoor N taps C days slots periods store sums d night y x state value)
   pub enter : (N taps C : ℕ) (days slots periods : List ℕ) (store sums : List ℤ) (d : ℕ) (night : Night) (y : List ℤ) (state value : ℕ)
       → Checked (15 ∷ 15 ∷ 10 ∷ 18 ∷ 5 ∷ 7 ∷ 11 ∷ 12 ∷ []) ((15, tablesShort days slots periods) ∷ enterAll (recordOf N taps C days slots periods) store sums d night y)
       (λ (o : ℕ × List ℕ × List ℕ × List ℕ × List ℤ × List ℤ × ℕ × ℕ). o .0) (λ n. (n, days, slots, periods, store, sums, state, value))
-      (enterDoor N taps C days slots periods store sums d night y state value)
+      (fileDoor N taps C days slots periods store sums d night y own state value)
   pub withdraw : (N taps C : ℕ) (days slots periods : List ℕ) (store sums : List ℤ) (d : ℕ)
       → Checked (15 ∷ 15 ∷ 10 ∷ 13 ∷ []) ((15, tablesShort days slots periods) ∷ withdrawChecks (recordOf N taps C days slots periods) store sums d)
       (λ (o : ℕ × List ℕ × List ℕ × List ℕ × List ℤ × List ℤ). o .0) (λ n. (n, days, slots, periods, store, sums)) (withdrawDoor N taps C days slots periods store sums d)
@@ -74,8 +86,8 @@ pub record DoorRefusals : Type 0 where
 pub record DoorTails : Type 0 where
   pub start : (N taps C : ℕ) (days slots periods : List ℕ) (store sums : List ℤ) → let o = startDoor N taps C days slots periods store sums in
       KeepsTail 366 days (o .1) × KeepsTail 64 slots (o .2) × KeepsTail 64 periods (o .3) × KeepsTail (C * P N) store (o .4) × KeepsTail (P N) sums (o .5)
-  pub enter : (N taps C : ℕ) (days slots periods : List ℕ) (store sums : List ℤ) (d : ℕ) (night : Night) (y : List ℤ) (state value : ℕ)
-      → let o = enterDoor N taps C days slots periods store sums d night y state value in
+  pub file : (N taps C : ℕ) (days slots periods : List ℕ) (store sums : List ℤ) (d : ℕ) (night : Night) (y : List ℤ) (x : Shown) (state value : ℕ)
+      → let o = fileDoor N taps C days slots periods store sums d night y x state value in
       KeepsTail 366 days (o .1) × KeepsTail 64 slots (o .2) × KeepsTail 64 periods (o .3) × KeepsTail (C * P N) store (o .4) × KeepsTail (P N) sums (o .5)
   pub withdraw : (N taps C : ℕ) (days slots periods : List ℕ) (store sums : List ℤ) (d : ℕ) → let o = withdrawDoor N taps C days slots periods store sums d in
       KeepsTail 366 days (o .1) × KeepsTail 64 slots (o .2) × KeepsTail 64 periods (o .3) × KeepsTail (C * P N) store (o .4) × KeepsTail (P N) sums (o .5)
@@ -108,7 +120,7 @@ behind-tables days slots periods order checks tell kept opened e told inner = go
     go false h = let c = inner (long days slots periods h) in record { in-order = ap (λ l. 15 ∷ l) e; answer = c .answer; unchanged = c .unchanged }
 
 refusals : DoorRefusals
-unfolding startDoor enterDoor withdrawDoor countsDoor responseDoor summaryDoor
+unfolding startDoor fileDoor withdrawDoor countsDoor responseDoor summaryDoor
 refusals =
     let calls = demand-1 .0 in
     record {
@@ -117,6 +129,13 @@ refusals =
       step = λ p was. through (calls .step p) _ _ (steppedOut was) (λ x. refl) (λ n. refl);
       play = λ p signs. through (calls .play p signs) _ _ playedOut (λ x. refl) (λ n. refl);
       start = λ N taps C days slots periods store sums. checked _ _ _ _ _ refl (λ n. refl) refl;
+      judge = λ N taps night y state value.
+          through (calls .judge N taps night y) _ _ (λ (j : Judgement). judgedOut state value (j .verdict)) (λ j. means-number (j .verdict)) (λ n. refl);
+      file = λ N taps C days slots periods store sums d night y x state value.
+          let c = recordOf N taps C days slots periods in
+          behind-tables days slots periods _ _ _ _ _ refl (λ n. refl) (λ l.
+          through (calls .file c store sums d night y (shownTo c night y x)) _ _ (enteredOut days slots periods state value) (λ o. refl)
+          (λ n. put-backs days slots periods l (λ a b e. (n, a, b, e, store, sums, state, value))));
       enter = λ N taps C days slots periods store sums d night y state value.
           behind-tables days slots periods _ _ _ _ _ refl (λ n. refl) (λ l.
           through (calls .enter (recordOf N taps C days slots periods) store sums d night y) _ _ (enteredOut days slots periods state value) (λ x. refl)
@@ -181,15 +200,16 @@ module _ (N taps C : ℕ) (days slots periods : List ℕ) (store sums : List ℤ
       by-answer (suc n) = all-same
 
 tails : DoorTails
-unfolding enterDoor withdrawDoor responseDoor summaryDoor
+unfolding fileDoor withdrawDoor responseDoor summaryDoor
 tails =
     record {
       start = start-all;
-      enter = λ N taps C days slots periods store sums d night y state value.
+      file = λ N taps C days slots periods store sums d night y x state value.
+          let c = recordOf N taps C days slots periods in
           behind-either days slots periods (λ n. (n, days, slots, periods, store, sums, state, value)) _
           (λ (o : ℕ × List ℕ × List ℕ × List ℕ × List ℤ × List ℤ × ℕ × ℕ). All N taps C days slots periods store sums (o .1) (o .2) (o .3) (o .4) (o .5))
           (all-same N taps C days slots periods store sums)
-          (λ l. all-put N taps C days slots periods store sums l _ (enter-handed (recordOf N taps C days slots periods) store sums d night y) (enter-tails (recordOf N taps C days slots periods) store sums d night y));
+          (λ l. all-put N taps C days slots periods store sums l _ (file-handed c store sums d night y (shownTo c night y x)) (file-tails c store sums d night y (shownTo c night y x)));
       withdraw = λ N taps C days slots periods store sums d.
           behind-either days slots periods (λ n. (n, days, slots, periods, store, sums)) _
           (λ (o : ℕ × List ℕ × List ℕ × List ℕ × List ℤ × List ℤ). All N taps C days slots periods store sums (o .1) (o .2) (o .3) (o .4) (o .5))
@@ -208,12 +228,16 @@ tails =
 pub door-demand-1 : DoorRefusals × DoorTails
 door-demand-1 = (refusals, tails)
 
--- the period that a start tells in C's own number for it; the other doors tell theirs as `how-short` says
+-- the period that a start and judging tell in C's own number for it; the other doors tell theirs as `how-short` says
 pub start-how-short : (N taps C was : ℕ) (days slots periods : List ℕ) (store sums : List ℤ) → let n = startDoor N taps C days slots periods store sums .0 in
     Tells N taps n (told N taps n was) was
 unfolding startDoor
 start-how-short N taps C was days slots periods store sums =
     how-short-by N taps (startDoorChecks N taps C days slots periods store sums) refl (λ (o : ℕ × List ℕ × List ℕ × List ℕ × List ℤ × List ℤ). o .0) _ _ (λ n. refl) refl refl tt was
+
+pub judge-how-short : (N taps was : ℕ) (night : Night) (y : List ℤ) (state value : ℕ) → let n = judgeDoor N taps night y state value .0 in Tells N taps n (told N taps n was) was
+judge-how-short N taps was night y state value =
+    rw (refusals .judge N taps night y state value .answer) (how-short N taps (judgeChecks N taps night y) refl tt was)
 
 -- 6 exactly where the tables are long enough, the record holds together, and something lent is shorter than it needs; of `meter_recording` `Rooms` says it
 pub record DoorRooms : Type 0 where
@@ -239,15 +263,15 @@ door-six =
           (refusals .summary N taps C days slots periods store sums room tags stood was .answer) tt tt tt (work-short (P N) (length room) (length tags));
     }
 
--- an accepted entry writes the state that goes with what the samples after the run-in are: dead where no sample is at a rail and no two are more than 7 apart
-pub door-verdict : (N taps C : ℕ) (days slots periods : List ℕ) (store sums : List ℤ) (d : ℕ) (night : Night) (y : List ℤ) (state value : ℕ) (f : Finding) → Found (settled (P N) night y) f
-    → let o = enterDoor N taps C days slots periods store sums d night y state value in o .0 ≡ 0 → o .6 ≡ stateOf f
-unfolding enterDoor
-door-verdict N taps C days slots periods store sums d night y state value f h =
+-- an accepted filing writes the state that goes with what the samples after the run-in are: dead where no sample is at a rail and no two are more than 7 apart
+pub door-verdict : (N taps C : ℕ) (days slots periods : List ℕ) (store sums : List ℤ) (d : ℕ) (night : Night) (y : List ℤ) (x : Shown) (state value : ℕ) (f : Finding)
+    → Found (settled (P N) night y) f → let o = fileDoor N taps C days slots periods store sums d night y x state value in o .0 ≡ 0 → o .6 ≡ stateOf f
+unfolding fileDoor
+door-verdict N taps C days slots periods store sums d night y x state value f h =
     behind-either days slots periods (λ n. (n, days, slots, periods, store, sums, state, value)) _
     (λ (o : ℕ × List ℕ × List ℕ × List ℕ × List ℤ × List ℤ × ℕ × ℕ). o .0 ≡ 0 → o .6 ≡ stateOf f) (λ z. absurd (omega arith))
     (λ _ z.
-    ap (λ v. verdictMeans v .1 (state, value) .0) (accepted-verdict mine store sums d night y z ∙ ap (verdictOf mine) (found-exactly (settled (P N) night y) f .1 h)) ∙ gives f)
+    ap (λ v. verdictMeans v .1 (state, value) .0) (accepted-verdict mine store sums d night y (shownTo mine night y x) z ∙ ap (verdictOf mine) (found-exactly (settled (P N) night y) f .1 h)) ∙ gives f)
   where
     mine : Campaign
     mine = recordOf N taps C days slots periods
@@ -256,3 +280,45 @@ door-verdict N taps C days slots periods store sums d night y state value f h =
     gives (finds.Overloaded p) = refl
     gives finds.Dead = refl
     gives finds.Kept = refl
+
+-- ---- a verdict that is shown and comes back. `pairOf f` is the pair of state and value for the finding f: (2, place), (3, 0), and (1, 0), which has no slot
+
+pub record DoorJudgements : Type 0 where
+  -- an accepted judgement writes the pair of what the samples after the run-in are
+  pub shown : (N taps : ℕ) (night : Night) (y : List ℤ) (state value : ℕ) (f : Finding) → Found (settled (P N) night y) f
+      → let o = judgeDoor N taps night y state value in o .0 ≡ 0 → _≡_ {A = ℕ × ℕ} (o .1, o .2) (pairOf f)
+  -- handed to filing as it was written, it is filed as an entry is
+  pub then-filed : (N taps C : ℕ) (days slots periods : List ℕ) (store sums : List ℤ) (d : ℕ) (night : Night) (y : List ℤ) (state value q v : ℕ)
+      → let j = judgeDoor N taps night y q v in j .0 ≡ 0
+      → fileDoor N taps C days slots periods store sums d night y (handed (pairSays (j .1) (j .2))) state value
+      ≡ fileDoor N taps C days slots periods store sums d night y own state value
+  -- a pair that is no verdict is 23, and all that was lent is as it was
+  pub no-verdict : (N taps C : ℕ) (days slots periods : List ℕ) (store sums : List ℤ) (d : ℕ) (night : Night) (y : List ℤ) (state value q v : ℕ)
+      → ((f : Finding) → pairOf f ≡ (q, v) → ⊥)
+      → first ((15, tablesShort days slots periods) ∷ enterChecks (recordOf N taps C days slots periods) store sums d night y) ≡ 0
+      → fileDoor N taps C days slots periods store sums d night y (handed (pairSays q v)) state value ≡ (23, days, slots, periods, store, sums, state, value)
+
+pub door-judge-first : DoorJudgements
+unfolding fileDoor
+door-judge-first =
+    record {
+      shown = λ N taps night y state value f h z.
+          ap (λ x. judgedMeans x .1 (state, value)) (found-is N taps night y state value z ∙ ap judgedOf (found-exactly (settled (P N) night y) f .1 h)) ∙ writes-pair f (state, value);
+      then-filed = λ N taps C days slots periods store sums d night y state value q v z.
+          let c = recordOf N taps C days slots periods in
+          let e = found-is N taps night y q v z in
+          ap (λ x. behind days slots periods (λ n. (n, days, slots, periods, store, sums, state, value)) (enteredOut days slots periods state value (fileOutcome c store sums d night y x)))
+          (ap (λ (o : ℕ × ℕ). pairSays (o .0) (o .1)) (ap (λ x. judgedMeans x .1 (q, v)) e ∙ writes-pair (foundIn N night y) (q, v)) ∙ comes-back (foundIn N night y) ∙ sym e);
+      no-verdict = λ N taps C days slots periods store sums d night y state value q v none z.
+          let c = recordOf N taps C days slots periods in
+          let p = passes ((15, tablesShort days slots periods) ∷ enterChecks c store sums d night y) tt z in
+          let e = refusal-shown c store sums d night y 23 (accepts (enterChecks c store sums d night y) (p .1)) in
+          let l = long days slots periods (p .0) in
+          sym (opens days slots periods _ _ (p .0))
+          ∙ ap (λ x. enteredOut days slots periods state value (fileOutcome c store sums d night y x)) (no-verdict q v none)
+          ∙ ap (enteredOut days slots periods state value) e
+          ∙ put-backs days slots periods l (λ a b m. (23, a, b, m, store, sums, state, value));
+    }
+  where
+    found-is : (N taps : ℕ) (night : Night) (y : List ℤ) (state value : ℕ) → judgeDoor N taps night y state value .0 ≡ 0 → judging N taps night y ≡ judgedOf (foundIn N night y)
+    found-is N taps night y state value z = judge-found N taps night y (sym (judge-first N taps night y) ∙ sym (means-number (judging N taps night y)) ∙ z)

@@ -14,19 +14,22 @@ use Rattle.register.specs.Register.{P}
 use Rattle.register.specs.Calls.{answerOf}
 use Rattle.samples.specs.Samples.{clearedWide}
 use Rattle.nights.specs.declared.Night.{Night}
+use Rattle.judging.specs.Judging.{judging}
 use Rattle.records.specs.Record.{fresh}
 use Rattle.records.specs.declared.Campaign.{Campaign}
-use Rattle.campaign.specs.Calls.{startChecks, startOutcome, enterOutcome, withdrawOutcome}
+use Rattle.campaign.specs.Calls.{startChecks, startOutcome, fileOutcome, shownTo, withdrawOutcome}
+use Rattle.campaign.specs.declared.Shown.{Shown}
 use Rattle.campaign.specs.declared.Started.{Started}
 use Rattle.trend.specs.Calls.{responseOutcome, summaryOutcome, countsOutcome}
 use Rattle.trend.specs.declared.Tally.{Tally}
 use Rattle.trend.specs.declared.Levels.{Levels}
 use Rattle.history.specs.Run.{World, after, answer, run}
-use Rattle.meter.specs.Doors.{tablesShort, recordOf, enteredOut, withdrawnOut, countedOut, summedOut, startDoor, enterDoor, withdrawDoor, countsDoor, responseDoor, summaryDoor}
+use Rattle.meter.specs.Doors.{tablesShort, recordOf, enteredOut, withdrawnOut, countedOut, summedOut, startDoor, fileDoor, withdrawDoor, countsDoor, responseDoor, summaryDoor}
 use Rattle.meter.proofs.Opening.{opens}
+use Rattle.meter.proofs.Showing.{means-number}
 use Rattle.meter.proofs.Starting.{long-checks, started-long}
-use Rattle.demands.specs.Caller.{Lent, DoorCall, start, enter, withdraw, counts, response, summary, begins, holds, doorAfter, doorAnswer, doorRun, worldOf, behindDoor, behindDoors}
-use Rattle.demands.proofs.Handing.{Handed, enter-handed, withdraw-handed, Long, back-in, still-long}
+use Rattle.demands.specs.Caller.{Lent, DoorCall, start, judge, file, withdraw, counts, response, summary, begins, holds, doorAfter, doorAnswer, doorRun, worldOf, behindDoor, behindDoors}
+use Rattle.demands.proofs.Handing.{Handed, file-handed, withdraw-handed, Long, back-in, still-long}
 use Rattle.demands.proofs.Demands.{Said, demand-3}
 
 -- ---- one call
@@ -48,21 +51,23 @@ module _ (l : Lent) (t : Long (l .days) (l .slots) (l .periods)) where
   abbrev mine : Campaign
   mine = recordOf (l .order) (l .taps) (l .capacity) (l .days) (l .slots) (l .periods)
 
-  enter-opened : (d : ℕ) (night : Night) (y : List ℤ) (state value : ℕ) → enterDoor (l .order) (l .taps) (l .capacity) (l .days) (l .slots) (l .periods) (l .store) (l .sums) d night y state value
-      ≡ enteredOut (l .days) (l .slots) (l .periods) state value (enterOutcome mine (l .store) (l .sums) d night y)
-  unfolding enterDoor
-  enter-opened d night y state value = sym (opens (l .days) (l .slots) (l .periods) _ _ open-tables)
+  file-opened : (d : ℕ) (night : Night) (y : List ℤ) (x : Shown) (state value : ℕ)
+      → fileDoor (l .order) (l .taps) (l .capacity) (l .days) (l .slots) (l .periods) (l .store) (l .sums) d night y x state value
+      ≡ enteredOut (l .days) (l .slots) (l .periods) state value (fileOutcome mine (l .store) (l .sums) d night y (shownTo mine night y x))
+  unfolding fileDoor
+  file-opened d night y x state value = sym (opens (l .days) (l .slots) (l .periods) _ _ open-tables)
 
   withdraw-opened : (d : ℕ) → withdrawDoor (l .order) (l .taps) (l .capacity) (l .days) (l .slots) (l .periods) (l .store) (l .sums) d
       ≡ withdrawnOut (l .days) (l .slots) (l .periods) (withdrawOutcome mine (l .store) (l .sums) d)
   unfolding withdrawDoor
   withdraw-opened d = sym (opens (l .days) (l .slots) (l .periods) _ _ open-tables)
 
-  follows-enter : (d : ℕ) (night : Night) (y : List ℤ) (state value : ℕ) → Follows l (enter d night y state value)
-  follows-enter d night y state value =
-      let o = enterOutcome mine (l .store) (l .sums) d night y in
-      let h = enter-handed mine (l .store) (l .sums) d night y in
-      let e = enter-opened d night y state value in (
+  follows-file : (d : ℕ) (night : Night) (y : List ℤ) (x : Shown) (state value : ℕ) → Follows l (file d night y x state value)
+  follows-file d night y x state value =
+      let v = shownTo mine night y x in
+      let o = fileOutcome mine (l .store) (l .sums) d night y v in
+      let h = file-handed mine (l .store) (l .sums) d night y v in
+      let e = file-opened d night y x state value in (
         ap (λ (x : ℕ × List ℕ × List ℕ × List ℕ × List ℤ × List ℤ × ℕ × ℕ). worldOf (holds l (x .1) (x .2) (x .3) (x .4) (x .5))) e
             ∙ ap (λ c. worldWith c (o .1) (o .2)) (back-in (l .order) (l .taps) (l .capacity) (l .days) (l .slots) (l .periods) t (o .0 .campaign) h),
         ap (λ (x : ℕ × List ℕ × List ℕ × List ℕ × List ℤ × List ℤ × ℕ × ℕ). x .0) e,
@@ -142,7 +147,8 @@ module _ (l : Lent) (t : Long (l .days) (l .slots) (l .periods)) where
 
   follows : (c : DoorCall) → Follows l c
   follows (start N taps C) = follows-start N taps C
-  follows (enter d night y state value) = follows-enter d night y state value
+  follows (judge N taps night y state value) = (refl, means-number (judging N taps night y), t)
+  follows (file d night y x state value) = follows-file d night y x state value
   follows (withdraw d) = follows-withdraw d
   follows (counts was) = (refl, ap (λ (o : ℕ × Tally). o .0) (counts-opened was), t)
   follows (response r mean room tags) = (refl, ap (λ (o : ℕ × List ℤ × List ℤ × List ℤ × List ℕ). o .0) (response-opened r mean room tags), t)

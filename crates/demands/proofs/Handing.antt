@@ -11,9 +11,10 @@ use Rattle.sums.specs.Lists.{put}
 use Rattle.sums.specs.Refusals.{first, answered}
 use Rattle.sums.proofs.Tables.{length-put}
 use Rattle.nights.specs.declared.Night.{Night}
+use Rattle.judging.specs.declared.Judged.{Judged}
 use Rattle.records.specs.Record.{overloaded, dead, marked}
 use Rattle.records.specs.declared.Campaign.{Campaign}
-use Rattle.campaign.specs.Calls.{enterOutcome, withdrawChecks, withdrawOutcome}
+use Rattle.campaign.specs.Calls.{fileOutcome, withdrawChecks, withdrawOutcome}
 use Rattle.campaign.proofs.EntryCases.{by-cases}
 use Rattle.campaign.specs.declared.Withdrawn.{Withdrawn}
 use Rattle.meter.specs.Doors.{recordOf}
@@ -34,9 +35,9 @@ pub record Handed (c c′ : Campaign) : Type 0 where
 handed-same : (c : Campaign) → Handed c c
 handed-same c = record { order = refl; taps = refl; capacity = refl; days = refl; slots = refl; periods = refl }
 
-pub enter-handed : (c : Campaign) (store sums : List ℤ) (d : ℕ) (night : Night) (y : List ℤ) → Handed c (enterOutcome c store sums d night y .0 .campaign)
-enter-handed c store sums d night y =
-    by-cases c store sums d night y (λ o. Handed c (o .0 .campaign))
+pub file-handed : (c : Campaign) (store sums : List ℤ) (d : ℕ) (night : Night) (y : List ℤ) (v : Judged) → Handed c (fileOutcome c store sums d night y v .0 .campaign)
+file-handed c store sums d night y v =
+    by-cases c store sums d night y v (λ o. Handed c (o .0 .campaign))
     (record {
       refused = λ n _ _. handed-same c;
       loud = λ _ p _. marks overloaded;

@@ -20,10 +20,11 @@ use Rattle.prediction.specs.Calls.{predictionChecks, predictionOutcome, roomedC
 use Rattle.nights.specs.Nights.{periodsOf}
 use Rattle.nights.specs.declared.Night.{Night}
 use Rattle.nights.proofs.Terms.{term-long}
+use Rattle.judging.specs.declared.Judged.{Judged}
 use Rattle.records.specs.Record.{standing, daysIn, base, together}
 use Rattle.records.specs.declared.Campaign.{Campaign}
 use Rattle.records.proofs.Holding.{holds-together}
-use Rattle.campaign.specs.Calls.{startChecks, startOutcome, settledOf, termOf, entered, enterOutcome, withdrawOutcome}
+use Rattle.campaign.specs.Calls.{startChecks, startOutcome, settledOf, termOf, entered, fileOutcome, withdrawOutcome}
 use Rattle.campaign.specs.declared.Started.{Started}
 use Rattle.campaign.specs.declared.Verdict.the-variants as verdict
 use Rattle.trend.specs.Calls.{responseChecks, responseOutcome, summaryChecks, summaryOutcome}
@@ -125,7 +126,7 @@ module _ (c : Campaign) (N taps C : ℕ) (store sums : List ℤ) where
       either-way (startOutcome c N taps C store sums) (startChecks N taps C store sums) _ _ refl BegunTails
       (λ n. (same refl, same refl)) (written _ _ _, written _ _ _)
 
--- ---- an entry and a withdrawal: the store's tail, where a slot is filled or emptied
+-- ---- a filing and a withdrawal: the store's tail, where a slot is filled or emptied
 
 module _ (c : Campaign) (store : List ℤ) (k : ℕ) (l : k < c .capacity) (z : List ℤ) (long : length z ≡ P (c .order))
     (room : c .capacity * P (c .order) ≤ length store) where
@@ -148,33 +149,33 @@ same-tails c store sums store′ sums′ e g = (same e, same g)
 abbrev world : Campaign → List ℤ → List ℤ → World
 world c store sums = record { campaign = c; store = store; sums = sums }
 
-enter-apart : (c : Campaign) (store sums : List ℤ) (d : ℕ) (night : Night) (y : List ℤ) → together c store sums ≡ false
-    → enterOutcome c store sums d night y ≡ (entered c d (verdict.Refused 15), store, sums)
-unfolding enterOutcome
-enter-apart c store sums d night y t = rw t refl
+file-apart : (c : Campaign) (store sums : List ℤ) (d : ℕ) (night : Night) (y : List ℤ) (v : Judged) → together c store sums ≡ false
+    → fileOutcome c store sums d night y v ≡ (entered c d (verdict.Refused 15), store, sums)
+unfolding fileOutcome
+file-apart c store sums d night y v t = rw t refl
 
 withdraw-apart : (c : Campaign) (store sums : List ℤ) (d : ℕ) → together c store sums ≡ false
     → withdrawOutcome c store sums d ≡ (record { answer = 15; campaign = c }, store, sums)
 unfolding withdrawOutcome
 withdraw-apart c store sums d t = rw t refl
 
-pub enter-tails : (c : Campaign) (store sums : List ℤ) (d : ℕ) (night : Night) (y : List ℤ) → let o = enterOutcome c store sums d night y in
+pub file-tails : (c : Campaign) (store sums : List ℤ) (d : ℕ) (night : Night) (y : List ℤ) (v : Judged) → let o = fileOutcome c store sums d night y v in
     KeepsTail (c .capacity * P (c .order)) store (o .1) × KeepsTail (P (c .order)) sums (o .2)
-enter-tails c store sums d night y = by-together (together c store sums) refl
+file-tails c store sums d night y v = by-together (together c store sums) refl
   where
-    by-steps : together c store sums ≡ true → Entering (world c store sums) d night y (enterOutcome c store sums d night y)
-        → Both c store sums (enterOutcome c store sums d night y .1) (enterOutcome c store sums d night y .2)
+    by-steps : together c store sums ≡ true → Entering (world c store sums) d night y (fileOutcome c store sums d night y v)
+        → Both c store sums (fileOutcome c store sums d night y v .1) (fileOutcome c store sums d night y v .2)
     by-steps t (steps.refused n e g i) = same-tails c store sums _ _ g i
-    by-steps t (steps.aside q b v n l r f e g i) = same-tails c store sums _ _ g i
-    by-steps t (steps.kept k b v r n l f least most good e g i) =
+    by-steps t (steps.aside q b x n l r f e g i) = same-tails c store sums _ _ g i
+    by-steps t (steps.kept k b x r n l f least most good e g i) =
         rw (g, i) (
           slot-tail c store k l (termOf c night y) (term-long (P (c .order)) (periodsOf night) (settledOf c night y)) (holds-together c store sums .0 t .store-long),
           written _ _ _,
         )
 
-    by-together : (b : Bool) → together c store sums ≡ b → Both c store sums (enterOutcome c store sums d night y .1) (enterOutcome c store sums d night y .2)
-    by-together true t = by-steps t (entering (world c store sums) d night y t)
-    by-together false t = same-tails c store sums _ _ (ap (λ o. o .1) (enter-apart c store sums d night y t)) (ap (λ o. o .2) (enter-apart c store sums d night y t))
+    by-together : (b : Bool) → together c store sums ≡ b → Both c store sums (fileOutcome c store sums d night y v .1) (fileOutcome c store sums d night y v .2)
+    by-together true t = by-steps t (entering (world c store sums) d night y v t)
+    by-together false t = same-tails c store sums _ _ (ap (λ o. o .1) (file-apart c store sums d night y v t)) (ap (λ o. o .2) (file-apart c store sums d night y v t))
 
 pub withdraw-tails : (c : Campaign) (store sums : List ℤ) (d : ℕ) → let o = withdrawOutcome c store sums d in
     KeepsTail (c .capacity * P (c .order)) store (o .1) × KeepsTail (P (c .order)) sums (o .2)

@@ -5,11 +5,12 @@ use Prim.Native.Nat.{ℕ}
 use lib.IntN.{ℤ}
 use Rattle.sums.specs.Refusals.{answered}
 use Rattle.nights.specs.declared.Night.{Night}
+use Rattle.campaign.specs.declared.Shown.{Shown}
 use Rattle.trend.specs.declared.Tally.{Tally}
 use Rattle.trend.specs.declared.Levels.{Levels}
 use Rattle.history.specs.Run.{World, Call}
 use Rattle.history.specs.Run as call
-use Rattle.meter.specs.Doors.{recordOf, startDoor, enterDoor, withdrawDoor, countsDoor, responseDoor, summaryDoor}
+use Rattle.meter.specs.Doors.{recordOf, startDoor, judgeDoor, fileDoor, withdrawDoor, countsDoor, responseDoor, summaryDoor}
 
 -- what the caller holds
 pub record Lent : Type 0 where
@@ -22,16 +23,18 @@ pub record Lent : Type 0 where
   pub store : List ℤ
   pub sums : List ℤ
 
--- a call of the door, with what the caller lends for its answers; `meter_enter` enters a night of one period, `meter_capture` a capture
+-- a call of the door, with what the caller lends for its answers; `meter_judge` and `meter_file` are of a night of one period, `meter_judge_capture` and
+-- `meter_file_capture` of a capture; `meter_enter` and `meter_capture` are filings by judging's own verdict
 pub data DoorCall : Type 0 where
   start : ℕ → ℕ → ℕ → DoorCall
-  enter : ℕ → Night → List ℤ → ℕ → ℕ → DoorCall
+  judge : ℕ → ℕ → Night → List ℤ → ℕ → ℕ → DoorCall
+  file : ℕ → Night → List ℤ → Shown → ℕ → ℕ → DoorCall
   withdraw : ℕ → DoorCall
   counts : Tally → DoorCall
   response : List ℤ → List ℤ → List ℤ → List ℕ → DoorCall
   summary : List ℤ → List ℕ → ℕ → Levels → DoorCall
 
--- what it holds after a start, and after an entry or a withdrawal
+-- what it holds after a start, and after a filing or a withdrawal
 abbrev pub begins : Lent → ℕ → ℕ → ℕ → ℕ × List ℕ × List ℕ × List ℕ × List ℤ × List ℤ → Lent
 begins l N taps C (n, days, slots, periods, store, sums) =
     record {
@@ -51,8 +54,9 @@ holds l days slots periods store sums =
 
 abbrev pub doorAfter : Lent → DoorCall → Lent
 doorAfter l (start N taps C) = begins l N taps C (startDoor N taps C (l .days) (l .slots) (l .periods) (l .store) (l .sums))
-doorAfter l (enter d night y state value) =
-    let o = enterDoor (l .order) (l .taps) (l .capacity) (l .days) (l .slots) (l .periods) (l .store) (l .sums) d night y state value in
+doorAfter l (judge N taps night y state value) = l
+doorAfter l (file d night y s state value) =
+    let o = fileDoor (l .order) (l .taps) (l .capacity) (l .days) (l .slots) (l .periods) (l .store) (l .sums) d night y s state value in
     holds l (o .1) (o .2) (o .3) (o .4) (o .5)
 doorAfter l (withdraw d) =
     let o = withdrawDoor (l .order) (l .taps) (l .capacity) (l .days) (l .slots) (l .periods) (l .store) (l .sums) d in
@@ -64,7 +68,8 @@ doorAfter l (summary room tags stood was) = l
 -- the number that the door answers
 abbrev pub doorAnswer : Lent → DoorCall → ℕ
 doorAnswer l (start N taps C) = startDoor N taps C (l .days) (l .slots) (l .periods) (l .store) (l .sums) .0
-doorAnswer l (enter d night y state value) = enterDoor (l .order) (l .taps) (l .capacity) (l .days) (l .slots) (l .periods) (l .store) (l .sums) d night y state value .0
+doorAnswer l (judge N taps night y state value) = judgeDoor N taps night y state value .0
+doorAnswer l (file d night y s state value) = fileDoor (l .order) (l .taps) (l .capacity) (l .days) (l .slots) (l .periods) (l .store) (l .sums) d night y s state value .0
 doorAnswer l (withdraw d) = withdrawDoor (l .order) (l .taps) (l .capacity) (l .days) (l .slots) (l .periods) (l .store) (l .sums) d .0
 doorAnswer l (counts was) = countsDoor (l .order) (l .taps) (l .capacity) (l .days) (l .slots) (l .periods) (l .store) (l .sums) was .0
 doorAnswer l (response r mean room tags) = responseDoor (l .order) (l .taps) (l .capacity) (l .days) (l .slots) (l .periods) (l .store) (l .sums) r mean room tags .0
@@ -82,7 +87,8 @@ worldOf l = record { campaign = recordOf (l .order) (l .taps) (l .capacity) (l .
 
 abbrev pub behindDoor : DoorCall → Call
 behindDoor (start N taps C) = call.start N taps C
-behindDoor (enter d night y state value) = call.enter d night y
+behindDoor (judge N taps night y state value) = call.judge N taps night y
+behindDoor (file d night y s state value) = call.file d night y s
 behindDoor (withdraw d) = call.withdraw d
 behindDoor (counts was) = call.counts
 behindDoor (response r mean room tags) = call.response r mean room tags

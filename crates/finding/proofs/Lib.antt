@@ -1,3 +1,4 @@
 -- The laws of what a recording is found to be.
 pub mod Exactly
+pub mod Loud
 pub mod Numbers

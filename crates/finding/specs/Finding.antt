@@ -1,14 +1,14 @@
 -- Document 01, "The campaign", and document 02, request 2: overloaded, otherwise dead, otherwise kept. Assumes nothing.
 use mathlib.Core.List.{List}
-use mathlib.Core.Bool.{Bool, true, false, cond}
+use mathlib.Core.Bool.{Bool, true, false, cond, _||_}
 use Prim.Native.Nat.{ℕ}
 use lib.Dec.{ltb}
 use lib.IntN.{ℤ, pos, _-ℤ_}
 use lib.ListN.{length}
-use lib.Signed.{leZ}
-use Rattle.sums.specs.Lists.{at, seek}
+use lib.Signed.{ltZ, leZ}
+use Rattle.sums.specs.Lists.{at, seek, some}
 use Rattle.sums.specs.Largest.{largest, smallest}
-use Rattle.samples.specs.Samples.{rail}
+use Rattle.samples.specs.Samples.{rail, leastOf, mostOf}
 use Rattle.finding.specs.declared.Rail.{Rail}
 use Rattle.finding.specs.declared.Rail.the-variants as scan
 use Rattle.finding.specs.declared.Finding.{Finding}
@@ -22,6 +22,10 @@ railPlace y = seek (λ j. rail (at y j)) (length y) 0
 
 abbrev pub railOf : List ℤ → Rail
 railOf y = cond (ltb (railPlace y) (length y)) (scan.First (railPlace y)) scan.Clear
+
+-- some sample is at a rail or beyond one
+abbrev pub someLoud : List ℤ → Bool
+someLoud y = some (length y) (λ j. ltZ (at y j) (leastOf 1) || ltZ (mostOf 1) (at y j))
 
 -- ---- dead: its largest sample minus its smallest is 7 or less
 

@@ -1,6 +1,6 @@
 // What a recording is found to be before anything is kept: overloaded, dead or kept.
 pub mod looking;
-mod rails;
+pub mod rails;
 mod spread;
 
 // The largest spread of a dead recording.

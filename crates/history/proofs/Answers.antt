@@ -15,11 +15,13 @@ use Rattle.register.specs.Register.{P}
 use Rattle.register.specs.Calls.{answerOf}
 use Rattle.samples.specs.Samples.{clearedWide, clearedTags}
 use Rattle.records.specs.Record.{standing, daysIn, together, fresh}
-use Rattle.campaign.specs.Calls.{startChecks, enterAll, withdrawChecks, withdrawnOutcome, startOutcome, withdrawOutcome}
-use Rattle.campaign.proofs.EntryCases.{entry-first}
+use Rattle.judging.specs.Judging.{judgeChecks}
+use Rattle.judging.proofs.Judgements.{judge-first}
+use Rattle.campaign.specs.Calls.{startChecks, fileAll, shownTo, withdrawChecks, withdrawnOutcome, startOutcome, withdrawOutcome}
+use Rattle.campaign.proofs.EntryCases.{file-first}
 use Rattle.trend.specs.Calls.{responseChecks, summaryChecks, tally, countsOutcome, responseOutcome, summaryOutcome, worked, meanAt, levelsOf, divisor, countsNumber, summaryNumber}
 use Rattle.trend.proofs.Enough.{answer-enough}
-use Rattle.history.specs.Run.{World, Call, start, enter, withdraw, counts, response, summary, answer}
+use Rattle.history.specs.Run.{World, Call, start, judge, file, withdraw, counts, response, summary, answer}
 use Rattle.records.specs.declared.Campaign.{Campaign}
 use Rattle.campaign.specs.declared.Started.{Started}
 use Rattle.campaign.specs.declared.Withdrawn.{Withdrawn}
@@ -66,8 +68,10 @@ module _ (w : World) (t : together (w .campaign) (w .store) (w .sums) ≡ true) 
       (λ n. (record { answer = answerOf N taps n; campaign = w .campaign }, w .store, w .sums))
       (record { answer = answerOf N taps 0; campaign = fresh N taps C }, clearedWide (C * P N) (w .store), clearedWide (P N) (w .sums)) (λ o. o .0 .answer .number ≡ 15 → ⊥)
       (λ n _ h g. not-first 15 (startChecks N taps C (w .store) (w .sums)) tt (h ∙ g)) (λ _ g. omega arith)
-  never-fifteen (enter d night y) =
-      λ h. not-fifteen (enterAll (w .campaign) (w .store) (w .sums) d night y) (ap not t) tt (sym (entry-first (w .campaign) (w .store) (w .sums) d night y) ∙ h)
+  never-fifteen (judge N taps night y) = λ h. not-first 15 (judgeChecks N taps night y) tt (sym (judge-first N taps night y) ∙ h)
+  never-fifteen (file d night y s) =
+      let v = shownTo (w .campaign) night y s in
+      λ h. not-fifteen (fileAll (w .campaign) (w .store) (w .sums) d night y v) (ap not t) tt (sym (file-first (w .campaign) (w .store) (w .sums) d night y v) ∙ h)
   never-fifteen (withdraw d) =
       outcome-cases {A = Withdrawn × List ℤ × List ℤ} (withdrawChecks (w .campaign) (w .store) (w .sums) d) tt
       (λ n. (record { answer = n; campaign = w .campaign }, w .store, w .sums)) (withdrawnOutcome (w .campaign) (w .store) (w .sums) d) (λ o. o .0 .answer ≡ 15 → ⊥)

@@ -10,21 +10,21 @@ use native.Mathlib.Omega.{arith}
 use borrow.Author.Tests.{eq-eqb, ne-eqb, eqb-true}
 use lib.Dec.{T, eqb}
 use lib.IntN.{ℤ, pos}
-use lib.ListN.{length}
 use Rattle.sums.specs.Sum.{sum}
 use Rattle.sums.specs.Lists.{at, many}
 use Rattle.sums.specs.Refusals.{first}
 use Rattle.sums.proofs.First.{refused-first, passed-first, accepts, outcome-cases}
 use Rattle.sums.proofs.Sum.{sum-ext, total-changed}
 use Rattle.register.specs.Register.{P}
-use Rattle.samples.specs.Samples.{lengthOff, someOut}
 use Rattle.finding.specs.Finding.{finding}
-use Rattle.nights.specs.Nights.{periodsOf, periodsOut, nightLength, settled}
+use Rattle.nights.specs.Nights.{periodsOf, settled}
 use Rattle.nights.specs.declared.Night.{Night}
 use Rattle.records.specs.Record.{standing, withdrawn, state, stands, daysIn, together}
-use Rattle.campaign.specs.Calls.{dayOut, settledOf, withdrawChecks, withdrawnOutcome, enterOutcome, withdrawOutcome, stateOf, keeps}
-use Rattle.campaign.proofs.EntryCases.{entry-first}
-use Rattle.history.specs.Run.{World, Call, start, enter, withdraw, counts, response, summary, after, answer, accepted, run, starts, underWay, begun, names, makes, made, Heard, termAt, recording, heard, Elsewhere}
+use Rattle.judging.specs.Judging.{nightChecks, judging, same}
+use Rattle.campaign.specs.Calls.{dayOut, settledOf, fullChecks, shownAs, shownTo, withdrawChecks, withdrawnOutcome, fileOutcome, withdrawOutcome, stateOf, keeps}
+use Rattle.campaign.specs.declared.Shown.{Shown}
+use Rattle.campaign.proofs.EntryCases.{file-first}
+use Rattle.history.specs.Run.{World, Call, start, judge, file, withdraw, counts, response, summary, after, answer, accepted, run, starts, underWay, begun, names, makes, made, Heard, termAt, recording, heard, Elsewhere}
 use Rattle.records.specs.declared.Campaign.{Campaign}
 use Rattle.campaign.specs.declared.Withdrawn.{Withdrawn}
 use Rattle.records.proofs.Holding.{holds-together}
@@ -37,21 +37,25 @@ use Rattle.history.proofs.Steps as steps
 use Rattle.history.proofs.Undone.{Undone, undone, withdraw-accepted}
 use Rattle.history.proofs.EveryRun.{sums-are}
 
--- ---- the answer of an entry and of a withdrawal, as one list of checks
+-- ---- the answer of a filing and of a withdrawal, as one list of checks
 
--- those before the verdict, where the record holds together
-abbrev early : Campaign → ℕ → Night → List ℤ → List (ℕ × Bool)
-early c d night y =
-    (10, dayOut d) ∷ (18, periodsOut night) ∷ (5, lengthOff (nightLength (P (c .order)) night) y) ∷ (7, someOut (length y) (at y)) ∷ (11, stands c d) ∷ []
+-- those before the verdict, where the record holds together: of the record they look at the order, the taps and the day's state
+abbrev by-numbers : ℕ → Night → List ℤ → Shown → ℕ → ℕ → ℕ → List (ℕ × Bool)
+by-numbers d night y s N taps q =
+    (10, dayOut d)
+    ∷ nightChecks N night y
+    ++ (11, eqb q standing)
+    ∷ (23, not (same (shownAs (judging N taps night y) s) (judging N taps night y)))
+    ∷ []
 
-abbrev full : Campaign → Night → List ℤ → List (ℕ × Bool)
-full c night y = (12, keeps (finding (settledOf c night y)) && eqb (daysIn c standing) (c .capacity)) ∷ []
+abbrev early : Campaign → ℕ → Night → List ℤ → Shown → List (ℕ × Bool)
+early c d night y s = by-numbers d night y s (c .order) (c .taps) (state c d)
 
-enter-answer : (w : World) → together (w .campaign) (w .store) (w .sums) ≡ true → (d : ℕ) (night : Night) (y : List ℤ)
-    → answer w (enter d night y) ≡ first (early (w .campaign) d night y ++ full (w .campaign) night y)
-enter-answer w t d night y =
-    entry-first (w .campaign) (w .store) (w .sums) d night y
-    ∙ ap (λ b. cond (not b) 15 (first (early (w .campaign) d night y ++ full (w .campaign) night y))) t
+file-answer : (w : World) → together (w .campaign) (w .store) (w .sums) ≡ true → (d : ℕ) (night : Night) (y : List ℤ) (s : Shown)
+    → answer w (file d night y s) ≡ first (early (w .campaign) d night y s ++ fullChecks (w .campaign) night y)
+file-answer w t d night y s =
+    file-first (w .campaign) (w .store) (w .sums) d night y (shownTo (w .campaign) night y s)
+    ∙ ap (λ b. cond (not b) 15 (first (early (w .campaign) d night y s ++ fullChecks (w .campaign) night y))) t
 
 withdraw-answer : (w : World) → together (w .campaign) (w .store) (w .sums) ≡ true → (d : ℕ)
     → answer w (withdraw d) ≡ first ((10, dayOut d) ∷ (13, not (stands (w .campaign) d)) ∷ [])
@@ -70,10 +74,10 @@ pub record AsIf (p : ℕ) (a b : World) : Type 0 where
   pub sums : (j : ℕ) → j < p → at (a .sums) j ≡ at (b .sums) j
   pub days : (e : ℕ) → Day e → stands (a .campaign) e ≡ stands (b .campaign) e
 
-module _ (w₀ : World) (cs : List Call) (started : underWay w₀ cs ≡ true) (d : ℕ) (night : Night) (y : List ℤ) (r : Day d) where
+module _ (w₀ : World) (cs : List Call) (started : underWay w₀ cs ≡ true) (d : ℕ) (night : Night) (y : List ℤ) (x : Shown) (r : Day d) where
   -- the calls `between` after the entry, and the same with no entry
   abbrev with-it : List Call → List Call
-  with-it between = between ++ (enter d night y ∷ cs)
+  with-it between = between ++ (file d night y x ∷ cs)
 
   abbrev without-it : List Call → List Call
   without-it between = between ++ cs
@@ -91,7 +95,8 @@ module _ (w₀ : World) (cs : List Call) (started : underWay w₀ cs ≡ true) (
 
   no-start : (call : Call) → names call d ≡ false → starts call ≡ false
   no-start (start N taps C) e = e
-  no-start (enter e other z) _ = refl
+  no-start (judge N taps other z) _ = refl
+  no-start (file e other z u) _ = refl
   no-start (withdraw e) _ = refl
   no-start counts _ = refl
   no-start (response x1 x2 x3 x4) _ = refl
@@ -127,11 +132,16 @@ module _ (w₀ : World) (cs : List Call) (started : underWay w₀ cs ≡ true) (
     unfolding campaign-a campaign-b
     same-order = ever (s .onward-a) .order ∙ ap (λ (x : Campaign). x .order) (s .onward-a .same ∙ sym (s .onward-b .same)) ∙ sym (ever (s .onward-b) .order)
 
+    same-taps : campaign-a .taps ≡ campaign-b .taps
+    unfolding campaign-a campaign-b
+    same-taps = ever (s .onward-a) .taps ∙ ap (λ (x : Campaign). x .taps) (s .onward-a .same ∙ sym (s .onward-b .same)) ∙ sym (ever (s .onward-b) .taps)
+
     -- a call makes the same of a day, and leaves the same recording, in both
     same-makes : (call : Call) → makes (run w₀ a) call ≡ makes (run w₀ b) call
     unfolding campaign-a campaign-b
     same-makes (start N taps C) = refl
-    same-makes (enter e v z) = ap (λ o. stateOf (finding (settled (P o) v z))) same-order
+    same-makes (judge N taps v z) = refl
+    same-makes (file e v z u) = ap (λ o. stateOf (finding (settled (P o) v z))) same-order
     same-makes (withdraw e) = refl
     same-makes counts = refl
     same-makes (response x1 x2 x3 x4) = refl
@@ -140,7 +150,8 @@ module _ (w₀ : World) (cs : List Call) (started : underWay w₀ cs ≡ true) (
     same-recording : (call : Call) (x : Heard) → recording (run w₀ a) call x ≡ recording (run w₀ b) call x
     unfolding campaign-a campaign-b
     same-recording (start N taps C) x = refl
-    same-recording (enter e v z) x = ap (λ o. record { periods = periodsOf v; samples = settled (P o) v z }) same-order
+    same-recording (judge N taps v z) x = refl
+    same-recording (file e v z u) x = ap (λ o. record { periods = periodsOf v; samples = settled (P o) v z }) same-order
     same-recording (withdraw e) x = refl
     same-recording counts x = refl
     same-recording (response x1 x2 x3 x4) x = refl
@@ -158,15 +169,15 @@ module _ (w₀ : World) (cs : List Call) (started : underWay w₀ cs ≡ true) (
         omega arith
 
     -- a call on another day is accepted in both or in neither
-    same-entry : (e : ℕ) (v : Night) (z : List ℤ) → Day e → (e ≡ d → ⊥) → (answer (run w₀ a) (enter e v z) ≡ 12 → ⊥) → answer (run w₀ a) (enter e v z) ≡ answer (run w₀ b) (enter e v z)
+    same-entry : (e : ℕ) (v : Night) (z : List ℤ) (u : Shown) → Day e → (e ≡ d → ⊥) → (answer (run w₀ a) (file e v z u) ≡ 12 → ⊥) → answer (run w₀ a) (file e v z u) ≡ answer (run w₀ b) (file e v z u)
     unfolding campaign-a campaign-b
-    same-entry e v z p n twelve =
-        enter-answer (run w₀ a) (holds (s .onward-a)) e v z ∙ lists (first (early campaign-b e v z)) refl ∙ sym (enter-answer (run w₀ b) (holds (s .onward-b)) e v z)
+    same-entry e v z u p n twelve =
+        file-answer (run w₀ a) (holds (s .onward-a)) e v z u ∙ lists (first (early campaign-b e v z u)) refl ∙ sym (file-answer (run w₀ b) (holds (s .onward-b)) e v z u)
       where
-        alike : early campaign-a e v z ≡ early campaign-b e v z
+        alike : early campaign-a e v z u ≡ early campaign-b e v z u
         alike =
-            ap₂ (λ o q. (10, dayOut e) ∷ (18, periodsOut v) ∷ (5, lengthOff (nightLength (P o) v) z) ∷ (7, someOut (length z) (at z)) ∷ (11, eqb q standing) ∷ [])
-            same-order (same-state e p n)
+            ap₂ (λ o q. by-numbers e v z u o (campaign-a .taps) q) same-order (same-state e p n)
+            ∙ ap (λ t. by-numbers e v z u (campaign-b .order) t (state campaign-b e)) same-taps
 
         room : eqb (daysIn campaign-b standing) (campaign-b .capacity) ≡ false
         room =
@@ -177,21 +188,21 @@ module _ (w₀ : World) (cs : List Call) (started : underWay w₀ cs ≡ true) (
         and-none true = refl
         and-none false = refl
 
-        passed : first (early campaign-b e v z) ≡ 0 → first (full campaign-a v z) ≡ 0
+        passed : first (early campaign-b e v z u) ≡ 0 → first (fullChecks campaign-a v z) ≡ 0
         passed q = go (keeps (finding (settledOf campaign-a v z)) && eqb (daysIn campaign-a standing) (campaign-a .capacity)) refl
           where
             go : (k : Bool) → keeps (finding (settledOf campaign-a v z)) && eqb (daysIn campaign-a standing) (campaign-a .capacity) ≡ k → first ((12, k) ∷ []) ≡ 0
             go false g = refl
             go true g =
-                absurd (twelve (enter-answer (run w₀ a) (holds (s .onward-a)) e v z ∙ passed-first (early campaign-a e v z) (full campaign-a v z) tt (ap first alike ∙ q) ∙ ap (λ k. first ((12, k) ∷ [])) g))
+                absurd (twelve (file-answer (run w₀ a) (holds (s .onward-a)) e v z u ∙ passed-first (early campaign-a e v z u) (fullChecks campaign-a v z) tt (ap first alike ∙ q) ∙ ap (λ k. first ((12, k) ∷ [])) g))
 
-        lists : (n : ℕ) → first (early campaign-b e v z) ≡ n → first (early campaign-a e v z ++ full campaign-a v z) ≡ first (early campaign-b e v z ++ full campaign-b v z)
+        lists : (n : ℕ) → first (early campaign-b e v z u) ≡ n → first (early campaign-a e v z u ++ fullChecks campaign-a v z) ≡ first (early campaign-b e v z u ++ fullChecks campaign-b v z)
         lists zero q =
-            passed-first (early campaign-a e v z) (full campaign-a v z) tt (ap first alike ∙ q) ∙ passed q
-            ∙ sym (passed-first (early campaign-b e v z) (full campaign-b v z) tt q ∙ ap (λ k. first ((12, k) ∷ [])) (ap (λ k. keeps (finding (settledOf campaign-b v z)) && k) room ∙ and-none (keeps (finding (settledOf campaign-b v z)))))
+            passed-first (early campaign-a e v z u) (fullChecks campaign-a v z) tt (ap first alike ∙ q) ∙ passed q
+            ∙ sym (passed-first (early campaign-b e v z u) (fullChecks campaign-b v z) tt q ∙ ap (λ k. first ((12, k) ∷ [])) (ap (λ k. keeps (finding (settledOf campaign-b v z)) && k) room ∙ and-none (keeps (finding (settledOf campaign-b v z)))))
         lists (suc n) q =
-            refused-first (early campaign-a e v z) (full campaign-a v z) (λ g. omega (arith, sym (ap first alike ∙ q) ∙ g)) ∙ ap first alike
-            ∙ sym (refused-first (early campaign-b e v z) (full campaign-b v z) (λ g. omega (arith, sym q ∙ g)))
+            refused-first (early campaign-a e v z u) (fullChecks campaign-a v z) (λ g. omega (arith, sym (ap first alike ∙ q) ∙ g)) ∙ ap first alike
+            ∙ sym (refused-first (early campaign-b e v z u) (fullChecks campaign-b v z) (λ g. omega (arith, sym q ∙ g)))
 
     same-withdrawal : (e : ℕ) → Day e → (e ≡ d → ⊥) → answer (run w₀ a) (withdraw e) ≡ answer (run w₀ b) (withdraw e)
     unfolding campaign-a campaign-b
@@ -207,9 +218,10 @@ module _ (w₀ : World) (cs : List Call) (started : underWay w₀ cs ≡ true) (
         where
           go : (k : Call) → names k d ≡ false → (answer (run w₀ a) k ≡ 12 → ⊥) → names k e ≡ true → answer (run w₀ a) k ≡ answer (run w₀ b) k
           go (start N taps C) o h u = absurd (subst T o tt)
-          go (enter g v z) _ h u =
+          go (judge N taps v z) _ h u = absurd (subst T (sym u) tt)
+          go (file g v z x) _ h u =
               let q = eqb-true g e u in
-              same-entry g v z (subst Day (sym q) p) (λ x. n (sym q ∙ x)) h
+              same-entry g v z x (subst Day (sym q) p) (λ x. n (sym q ∙ x)) h
           go (withdraw g) _ h u =
               let q = eqb-true g e u in
               same-withdrawal g (subst Day (sym q) p) (λ x. n (sym q ∙ x))
@@ -243,36 +255,36 @@ module _ (w₀ : World) (cs : List Call) (started : underWay w₀ cs ≡ true) (
 
   -- ---- from the entry on
 
-  module _ (entered-0 : answer (run w₀ cs) (enter d night y) ≡ 0) (kept : makes (run w₀ cs) (enter d night y) ≡ standing) where
+  module _ (entered-0 : answer (run w₀ cs) (file d night y x) ≡ 0) (kept : makes (run w₀ cs) (file d night y x) ≡ standing) where
     not-standing : made w₀ cs d ≡ standing → ⊥
-    not-standing e = go (entering (run w₀ cs) d night y (holds here))
+    not-standing e = go (entering (run w₀ cs) d night y (shownTo (run w₀ cs .campaign) night y x) (holds here))
       where
-        go : Entering (run w₀ cs) d night y (enterOutcome (run w₀ cs .campaign) (run w₀ cs .store) (run w₀ cs .sums) d night y) → ⊥
+        go : Entering (run w₀ cs) d night y (fileOutcome (run w₀ cs .campaign) (run w₀ cs .store) (run w₀ cs .sums) d night y (shownTo (run w₀ cs .campaign) night y x)) → ⊥
         go (steps.refused n g h i) = n entered-0
         go (steps.aside q b v n l p f g h i) = f (ever here .days d r ∙ e)
         go (steps.kept k b v p n l f least most good g h i) = n (ever here .days d r ∙ e)
 
-    at-entry : Alike (enter d night y ∷ cs) cs
+    at-entry : Alike (file d night y x ∷ cs) cs
     unfolding made heard
     at-entry =
         record {
-          onward-a = further here (enter d night y) refl;
+          onward-a = further here (file d night y x) refl;
           onward-b = here;
-          others = λ e p n. other-day e n (makes (run w₀ cs) (enter d night y)) (made w₀ cs e);
-          hears = λ e p n. other-day e n (recording (run w₀ cs) (enter d night y) (heard w₀ cs e)) (heard w₀ cs e);
-          mine = ap₂ (λ k o. cond (k && o) (makes (run w₀ cs) (enter d night y)) (made w₀ cs d)) (eq-eqb d d refl) (eq-eqb (answer (run w₀ cs) (enter d night y)) 0 entered-0) ∙ kept;
+          others = λ e p n. other-day e n (makes (run w₀ cs) (file d night y x)) (made w₀ cs e);
+          hears = λ e p n. other-day e n (recording (run w₀ cs) (file d night y x) (heard w₀ cs e)) (heard w₀ cs e);
+          mine = ap₂ (λ k o. cond (k && o) (makes (run w₀ cs) (file d night y x)) (made w₀ cs d)) (eq-eqb d d refl) (eq-eqb (answer (run w₀ cs) (file d night y x)) 0 entered-0) ∙ kept;
           none = not-standing;
         }
       where
-        other-day : {A : Type 0} (e : ℕ) → (e ≡ d → ⊥) → (x u : A) → cond (eqb d e && accepted (run w₀ cs) (enter d night y)) x u ≡ u
-        other-day e n x u = ap (λ k. cond (k && accepted (run w₀ cs) (enter d night y)) x u) (ne-eqb d e (λ q. n (sym q)))
+        other-day : {A : Type 0} (e : ℕ) → (e ≡ d → ⊥) → (i u : A) → cond (eqb d e && accepted (run w₀ cs) (file d night y x)) i u ≡ u
+        other-day e n i u = ap (λ k. cond (k && accepted (run w₀ cs) (file d night y x)) i u) (ne-eqb d e (λ q. n (sym q)))
 
-    alike : (between : List Call) → Elsewhere w₀ d (enter d night y ∷ cs) between → Alike (with-it between) (without-it between)
+    alike : (between : List Call) → Elsewhere w₀ d (file d night y x ∷ cs) between → Alike (with-it between) (without-it between)
     unfolding Elsewhere
     alike [] b = at-entry
     alike (call ∷ between) b = more-alike (alike between (b .2)) call (b .0) (b .1)
 
-    pub as-if : (between : List Call) → Elsewhere w₀ d (enter d night y ∷ cs) between → (answer (run w₀ (with-it between)) (withdraw d) ≡ 0)
+    pub as-if : (between : List Call) → Elsewhere w₀ d (file d night y x ∷ cs) between → (answer (run w₀ (with-it between)) (withdraw d) ≡ 0)
         × AsIf (P (begun w₀ cs .order)) (run w₀ (withdraw d ∷ with-it between)) (run w₀ (without-it between))
     unfolding made heard
     as-if between b = (answered-0, record { sums = same-sums; days = same-days })
@@ -336,5 +348,5 @@ module _ (w₀ : World) (cs : List Call) (started : underWay w₀ cs ≡ true) (
 
   -- ---- and at once
 
-  pub at-once : answer (run w₀ cs) (enter d night y) ≡ 0 → makes (run w₀ cs) (enter d night y) ≡ standing → Undone (run w₀ cs) (after (after (run w₀ cs) (enter d night y)) (withdraw d))
-  at-once = undone (run w₀ cs) (ever here .sized) (holds here) d night y
+  pub at-once : answer (run w₀ cs) (file d night y x) ≡ 0 → makes (run w₀ cs) (file d night y x) ≡ standing → Undone (run w₀ cs) (after (after (run w₀ cs) (file d night y x)) (withdraw d))
+  at-once = undone (run w₀ cs) (ever here .sized) (holds here) d night y x

@@ -1,4 +1,4 @@
--- Any two outcomes that a call's contract permits are equal: for every public call of register, response and campaign, what its contract tells
+-- Any two outcomes that a call's contract permits are equal: for every public call of register, response, judging and campaign, what its contract tells
 -- of two ends of one call makes the answers equal, and the record, the player and all memory lent. Assumes nothing.
 use mathlib.Core.Path.{_≡_, sym, ap, _∙_}
 use mathlib.Core.List.{List}
@@ -17,6 +17,7 @@ use Rattle.player.specs.declared.Player.{Player}
 use Rattle.player.specs.declared.Played.{Played}
 use Rattle.player.specs.declared.Stepped.{Stepped}
 use Rattle.player.specs.declared.Tick.{Tick}
+use Rattle.judging.specs.declared.Judgement.{Judgement}
 use Rattle.campaign.specs.declared.Started.{Started}
 use Rattle.campaign.specs.declared.Entered.{Entered}
 use Rattle.campaign.specs.declared.Withdrawn.{Withdrawn}
@@ -42,6 +43,10 @@ use Rattle.prediction.proofs.predict_in_room.Kinds as predict-in-room-kinds
 use Rattle.prediction.proofs.predict_in_room.Reads as predict-in-room
 use Rattle.campaign.proofs.starting.start.Kinds as start-kinds
 use Rattle.campaign.proofs.starting.start.Reads as start
+use Rattle.judging.proofs.judging.judge.Kinds as judge-kinds
+use Rattle.judging.proofs.judging.judge.Reads as judge
+use Rattle.campaign.proofs.entering.file.Kinds as file-kinds
+use Rattle.campaign.proofs.entering.file.Reads as file
 use Rattle.campaign.proofs.entering.enter.Kinds as enter-kinds
 use Rattle.campaign.proofs.entering.enter.Reads as enter
 use Rattle.campaign.proofs.withdrawing.withdraw.Kinds as withdraw-kinds
@@ -104,10 +109,18 @@ pub predict-in-room-determined : Determined 3 predict-in-room-kinds.ps predict-i
     (λ κs r s. ((r .number, now (s .1 .1 .1 .0), now (s .1 .1 .1 .1 .0)), r .period))
 predict-in-room-determined κs a x y s t p q = same-told (a .0) (a .1 .0) 0 (λ (o : ℕ × List ℤ × List ℤ). o .0) p q
 
+-- ---- judging
+
+pub judge-determined : Determined 1 judge-kinds.ps judge-kinds.r Judgement judge.Learnt (λ κs r s. r)
+judge-determined κs a x y s t p q = p ∙ sym q
+
 -- ---- campaign
 
 pub start-determined : Determined 2 start-kinds.ps start-kinds.r (Started × List ℤ × List ℤ) start.Learnt (λ κs r s. (r, now (s .1 .1 .1 .1 .0), now (s .1 .1 .1 .1 .1 .0)))
 start-determined κs a x y s t p q = p ∙ sym q
+
+pub file-determined : Determined 3 file-kinds.ps file-kinds.r (Entered × List ℤ × List ℤ) file.Learnt (λ κs r s. (r, now (s .1 .0), now (s .1 .1 .0)))
+file-determined κs a x y s t p q = p ∙ sym q
 
 pub enter-determined : Determined 3 enter-kinds.ps enter-kinds.r (Entered × List ℤ × List ℤ) enter.Learnt (λ κs r s. (r, now (s .1 .0), now (s .1 .1 .0)))
 enter-determined κs a x y s t p q = p ∙ sym q

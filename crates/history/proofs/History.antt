@@ -18,8 +18,9 @@ use Rattle.nights.specs.Nights.{term}
 use Rattle.nights.specs.declared.Night.{Night}
 use Rattle.nights.proofs.Terms.{term-long, term-at}
 use Rattle.records.specs.Record.{unseen, standing, withdrawn, state, slot, periods, base, sample, together, fresh, marked, filed}
-use Rattle.campaign.specs.Calls.{startOutcome, enterOutcome, withdrawOutcome}
-use Rattle.history.specs.Run.{World, Call, start, enter, withdraw, counts, response, summary, after, answer, accepted, run, starts, underWay, begins, begun, names, makes, made, Heard, termAt, nothing, recording, heard}
+use Rattle.campaign.specs.Calls.{startOutcome, fileOutcome, shownTo, withdrawOutcome}
+use Rattle.campaign.specs.declared.Shown.{Shown}
+use Rattle.history.specs.Run.{World, Call, start, judge, file, withdraw, counts, response, summary, after, answer, accepted, run, starts, underWay, begins, begun, names, makes, made, Heard, termAt, nothing, recording, heard}
 use Rattle.records.specs.declared.Campaign.{Campaign}
 use Rattle.records.proofs.Holding.{Together, holds-together}
 use Rattle.records.proofs.Tallying.{no-slot}
@@ -243,26 +244,26 @@ module _ (w : World) (cs : List Call) (s : SaysRun w cs) where
   holding : together (run w cs .campaign) (run w cs .store) (run w cs .sums) ≡ true
   holding = holds-together (run w cs .campaign) (run w cs .store) (run w cs .sums) .1 (s .holds)
 
-  -- an accepted entry, by what its record says
-  entered-as : (d : ℕ) (night : Night) (y : List ℤ) (q : ℕ) → answer (run w cs) (enter d night y) ≡ 0 → makes (run w cs) (enter d night y) ≡ q
-      → {c : Campaign} {store sums : List ℤ} → Says (begun w cs) c store sums (changed d q (made w cs)) (changed d (recording (run w cs) (enter d night y) nothing) (heard w cs))
-      → Says (begun w (enter d night y ∷ cs)) c store sums (made w (enter d night y ∷ cs)) (heard w (enter d night y ∷ cs))
+  -- an accepted filing, by what its record says
+  entered-as : (d : ℕ) (night : Night) (y : List ℤ) (x : Shown) (q : ℕ) → answer (run w cs) (file d night y x) ≡ 0 → makes (run w cs) (file d night y x) ≡ q
+      → {c : Campaign} {store sums : List ℤ} → Says (begun w cs) c store sums (changed d q (made w cs)) (changed d (recording (run w cs) (file d night y x) nothing) (heard w cs))
+      → Says (begun w (file d night y x ∷ cs)) c store sums (made w (file d night y x ∷ cs)) (heard w (file d night y x ∷ cs))
   unfolding begun made heard
-  entered-as d night y q a m s =
-      let e = enter d night y in
-      let t = eq-eqb (answer (run w cs) (enter d night y)) 0 a in
+  entered-as d night y x q a m s =
+      let e = file d night y x in
+      let t = eq-eqb (answer (run w cs) (file d night y x)) 0 a in
       says-ext (sym (if-alike (accepted (run w cs) e) (begun w cs)))
-      (λ x. sym (if-accepted (eqb d x) (accepted (run w cs) e) (makes (run w cs) e) (made w cs x) t ∙ ap (λ z. cond (eqb d x) z (made w cs x)) m))
-      (λ x. sym (if-accepted (eqb d x) (accepted (run w cs) e) (recording (run w cs) e nothing) (heard w cs x) t)) s
+      (λ i. sym (if-accepted (eqb d i) (accepted (run w cs) e) (makes (run w cs) e) (made w cs i) t ∙ ap (λ z. cond (eqb d i) z (made w cs i)) m))
+      (λ i. sym (if-accepted (eqb d i) (accepted (run w cs) e) (recording (run w cs) e nothing) (heard w cs i) t)) s
 
-  says-entered : (d : ℕ) (night : Night) (y : List ℤ) → Entering (run w cs) d night y (enterOutcome (run w cs .campaign) (run w cs .store) (run w cs .sums) d night y)
-      → SaysRun w (enter d night y ∷ cs)
+  says-entered : (d : ℕ) (night : Night) (y : List ℤ) (x : Shown) → Entering (run w cs) d night y (fileOutcome (run w cs .campaign) (run w cs .store) (run w cs .sums) d night y (shownTo (run w cs .campaign) night y x))
+      → SaysRun w (file d night y x ∷ cs)
   unfolding run term
-  says-entered d night y (steps.refused n e g i) =
-      says-refused w cs (enter d night y) s (ne-eqb (answer (run w cs) (enter d night y)) 0 n) (rw (e, g, i))
-  says-entered d night y (steps.aside q a m n b r v e g i) = rw (e, g, i) (entered-as d night y q a m (says-aside s d q _ r v n b))
-  says-entered d night y (steps.kept k a m r v l f least most good e g i) =
-      rw (e, g, i) (entered-as d night y standing a m (says-kept s d k (recording (run w cs) (enter d night y) nothing) r v l f least most good))
+  says-entered d night y x (steps.refused n e g i) =
+      says-refused w cs (file d night y x) s (ne-eqb (answer (run w cs) (file d night y x)) 0 n) (rw (e, g, i))
+  says-entered d night y x (steps.aside q a m n b r v e g i) = rw (e, g, i) (entered-as d night y x q a m (says-aside s d q _ r v n b))
+  says-entered d night y x (steps.kept k a m r v l f least most good e g i) =
+      rw (e, g, i) (entered-as d night y x standing a m (says-kept s d k (recording (run w cs) (file d night y x) nothing) r v l f least most good))
 
   says-freed : (d : ℕ) → Withdrawing (run w cs) d (withdrawOutcome (run w cs .campaign) (run w cs .store) (run w cs .sums) d) → SaysRun w (withdraw d ∷ cs)
   unfolding run begun made heard
@@ -276,7 +277,8 @@ module _ (w : World) (cs : List Call) (s : SaysRun w cs) where
 
   pub says-after : (call : Call) → SaysRun w (call ∷ cs)
   says-after (start N taps C) = says-started w cs N taps C (inl s) (starting (run w cs) N taps C)
-  says-after (enter d night y) = says-entered d night y (entering (run w cs) d night y holding)
+  says-after (judge N taps night y) = says-asked w cs (judge N taps night y) s (λ d. refl) (λ c. refl) refl
+  says-after (file d night y x) = says-entered d night y x (entering (run w cs) d night y (shownTo (run w cs .campaign) night y x) holding)
   says-after (withdraw d) = says-freed d (withdrawing (run w cs) d holding)
   says-after counts = says-asked w cs counts s (λ d. refl) (λ c. refl) refl
   says-after (response r mean room tags) = says-asked w cs (response r mean room tags) s (λ d. refl) (λ c. refl) refl
@@ -290,7 +292,8 @@ says w (call ∷ cs) u = go (λ e. says w cs e) (underWay w cs) refl
   where
     first-of : (k : Call) → starts k && accepted (run w cs) k ≡ true → SaysRun w (k ∷ cs)
     first-of (start N taps C) e = says-started w cs N taps C (inr e) (starting (run w cs) N taps C)
-    first-of (enter d night y) e = absurd (subst T (sym e) tt)
+    first-of (judge N taps night y) e = absurd (subst T (sym e) tt)
+    first-of (file d night y x) e = absurd (subst T (sym e) tt)
     first-of (withdraw d) e = absurd (subst T (sym e) tt)
     first-of counts e = absurd (subst T (sym e) tt)
     first-of (response r mean room tags) e = absurd (subst T (sym e) tt)

@@ -17,7 +17,8 @@ use Rattle.finding.specs.Finding.{finding}
 use Rattle.nights.specs.Nights.{term}
 use Rattle.nights.specs.declared.Night.the-variants.{Period, Capture}
 use Rattle.records.specs.Record.{standing, overloaded, dead, state, together, fresh, filed}
-use Rattle.campaign.specs.Calls.{enterOutcome, withdrawOutcome}
+use Rattle.judging.specs.Judging.{judgeOutcome}
+use Rattle.campaign.specs.Calls.{fileOutcome, enterOutcome, withdrawOutcome}
 use Rattle.trend.specs.Calls.{responseOutcome}
 use Rattle.history.specs.Run.{World, enter, withdraw, response, after, answer, run}
 use Rattle.campaign.specs.declared.Verdict.{Verdict}
@@ -69,7 +70,7 @@ pub record Entries : Type 0 where
   pub loud-all-used : verdict (after (of 1) (enter 1 Period (with (pos 8)))) 2 (with (pos 8388607)) ≡ Overloaded 0
 
 pub entries : Entries
-unfolding enterOutcome term finding together tapsAnswer period seek some every many total sum table put putAt window step dot ones
+unfolding fileOutcome judgeOutcome term finding together tapsAnswer period seek some every many total sum table put putAt window step dot ones
 entries =
     record {
       may-stand = refl;
@@ -150,7 +151,7 @@ pub record LogExample : Type 0 where
       ≡ (14, replicate 7 (pos 9), replicate 7 (pos 9), replicate 8 (pos 9), replicate 7 9)
 
 pub log-example : LogExample
-unfolding run enterOutcome term finding withdrawOutcome responseOutcome together tapsAnswer period seek some every many total sum sign table put putAt nearest formula.response formula.correlation wave bit window step dot ones
+unfolding run fileOutcome judgeOutcome term finding withdrawOutcome responseOutcome together tapsAnswer period seek some every many total sum sign table put putAt nearest formula.response formula.correlation wave bit window step dot ones
 log-example = record { kept = refl; dead = refl; response = refl; withdrawal = refl; nothing = refl }
 
 -- ---- captures
@@ -193,7 +194,7 @@ pub record Captures : Type 0 where
   pub withdrawal : run (of 2) (withdraw 1 ∷ enter 1 (Capture 2) night ∷ []) .campaign .periods ≡ replicate 64 0
 
 pub captures : Captures
-unfolding run enterOutcome term finding withdrawOutcome responseOutcome together tapsAnswer period seek some every many total sum sign table put putAt nearest formula.response formula.correlation wave bit window step dot ones
+unfolding run fileOutcome judgeOutcome term finding withdrawOutcome responseOutcome together tapsAnswer period seek some every many total sum sign table put putAt nearest formula.response formula.correlation wave bit window step dot ones
 captures =
     record {
       kept = refl;

@@ -1,4 +1,4 @@
--- Document 01, "Order of checks", with document 02, request 1, call by call: the checks' numbers as they stand, and for each two neighbours an input to which both apply, with
+-- Document 01, "Order of checks", with document 02, requests 1 and 5, call by call: the checks' numbers as they stand, and for each two neighbours an input to which both apply, with
 -- its answer. Order 2, so that P is 3, and one slot. Default taps and counts have one check. Assumes nothing.
 use mathlib.Core.Path.{_≡_, refl}
 use mathlib.Core.List.{List, [], _∷_, _++_}
@@ -18,13 +18,17 @@ use Rattle.finding.specs.Finding.{finding}
 use Rattle.nights.specs.Nights.{term}
 use Rattle.nights.specs.declared.Night.{Night}
 use Rattle.nights.specs.declared.Night.the-variants.{Period, Capture}
+use Rattle.judging.specs.Judging.{judgeOutcome}
+use Rattle.judging.specs.declared.Judged.{Judged}
+use Rattle.judging.specs.declared.Judged.the-variants as judged
+use Rattle.judging.proofs.Order as judging
 use Rattle.records.specs.Record.{standing, together, fresh, filed}
-use Rattle.campaign.specs.Calls.{startChecks, startOutcome, enterChecks, enterOutcome, withdrawChecks, withdrawOutcome}
+use Rattle.campaign.specs.Calls.{startChecks, startOutcome, enterChecks, fileChecks, fileOutcome, enterOutcome, withdrawChecks, withdrawOutcome}
 use Rattle.trend.specs.Calls.{responseChecks, responseOutcome, summaryChecks, summaryOutcome, summaryNumber}
 use Rattle.player.specs.declared.Player.{Player}
 use Rattle.records.specs.declared.Campaign.{Campaign}
 use Rattle.campaign.specs.declared.Verdict.{Verdict}
-use Rattle.campaign.specs.declared.Verdict.the-variants.{Overloaded, Dead, Refused}
+use Rattle.campaign.specs.declared.Verdict.the-variants.{Kept, Overloaded, Dead, Refused}
 
 -- ---- the calls that take order and taps
 
@@ -112,6 +116,13 @@ apart = entry-to (fresh 2 3 1) zeros barely
 abbrev full : ℕ → Night → List ℤ → Verdict
 full = entry-to (filed (fresh 2 3 1) 1 standing 0 1 1) barely barely
 
+-- a filing, handed a verdict, to the first and to the last of these
+abbrev to-empty : ℕ → Night → List ℤ → Judged → Verdict
+to-empty d night y v = fileOutcome (fresh 2 3 1) zeros zeros d night y v .0 .entry .verdict
+
+abbrev to-full : ℕ → Night → List ℤ → Judged → Verdict
+to-full d night y v = fileOutcome (filed (fresh 2 3 1) 1 standing 0 1 1) barely barely d night y v .0 .entry .verdict
+
 -- the other calls on the first two, told by their sums
 abbrev withdrew : List ℤ → ℕ → ℕ
 withdrew sums d = withdrawOutcome (fresh 2 3 1) zeros sums d .0 .answer
@@ -161,7 +172,7 @@ pub record Campaigns : Type 0 where
   pub summary-6-nothing : (summed zeros 3 3 ≡ 6) × (summed zeros 4 2 ≡ 6) × (summed zeros 4 3 ≡ 0)
 
 pub campaigns : Campaigns
-unfolding startOutcome enterOutcome term finding withdrawOutcome responseOutcome summaryOutcome together tapsAnswer period seek some every many total sum table put putAt window step dot ones
+unfolding startOutcome fileOutcome judgeOutcome term finding withdrawOutcome responseOutcome summaryOutcome together tapsAnswer period seek some every many total sum table put putAt window step dot ones
 campaigns =
     record {
       start = λ N taps C store sums. refl;
@@ -196,13 +207,45 @@ campaigns =
       summary-6-nothing = (refl, refl, refl);
     }
 
+-- ---- a filing that is handed a verdict
+
+pub record Filings : Type 0 where
+  pub file : (c : Campaign) (store sums : List ℤ) (d : ℕ) (night : Night) (y : List ℤ) (v : Judged)
+      → numbers (fileChecks c store sums d night y v) ≡ 15 ∷ 10 ∷ 18 ∷ 5 ∷ 7 ∷ 11 ∷ 23 ∷ []
+  pub file-11-23 : (to-full 1 Period barely judged.Dead ≡ Refused 11) × (to-full 1 (Capture 1) (zeros ++ dithers) judged.Kept ≡ Refused 11)
+  pub file-23-12 : (to-full 2 Period barely judged.Dead ≡ Refused 23) × (to-full 2 (Capture 1) (zeros ++ barely) (judged.Overloaded 0) ≡ Refused 23)
+      × (to-full 2 Period barely judged.Kept ≡ Refused 12)
+  pub kept-for-dead : to-empty 2 Period dithers judged.Kept ≡ Refused 23
+  pub dead-for-kept : to-empty 2 Period barely judged.Dead ≡ Refused 23
+  pub other-place : (to-empty 2 Period (with (pos 8388607)) (judged.Overloaded 1) ≡ Refused 23)
+      × (to-empty 2 (Capture 1) (zeros ++ with (pos 8388607)) (judged.Overloaded 3) ≡ Refused 23)
+  pub refusal-shown : (to-empty 2 Period barely (judged.Refused 7) ≡ Refused 23) × (to-empty 2 Period dithers (judged.Refused 0) ≡ Refused 23)
+  pub as-shown : (to-empty 2 Period barely judged.Kept ≡ Kept 0) × (to-empty 2 Period (with (pos 8388607)) (judged.Overloaded 0) ≡ Overloaded 0)
+      × (to-empty 2 (Capture 1) (zeros ++ dithers) judged.Dead ≡ Dead)
+
+pub filings : Filings
+unfolding fileOutcome judgeOutcome term finding together tapsAnswer period seek some every many total sum table put putAt window step dot ones
+filings =
+    record {
+      file = λ c store sums d night y v. refl;
+      file-11-23 = (refl, refl);
+      file-23-12 = (refl, refl, refl);
+      kept-for-dead = refl;
+      dead-for-kept = refl;
+      other-place = (refl, refl);
+      refusal-shown = (refl, refl);
+      as-shown = (refl, refl, refl);
+    }
+
 -- ---- every call
 
 pub record OrderOfChecks : Type 0 where
   pub registers : Registers
   pub recordings : response.Order
   pub predictions : prediction.Order
+  pub judgements : judging.Order
   pub campaigns : Campaigns
+  pub filings : Filings
 
 pub order-of-checks : OrderOfChecks
-order-of-checks = record { registers = registers; recordings = response.order; predictions = prediction.order; campaigns = campaigns }
+order-of-checks = record { registers = registers; recordings = response.order; predictions = prediction.order; judgements = judging.order; campaigns = campaigns; filings = filings }

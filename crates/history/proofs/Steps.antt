@@ -1,4 +1,4 @@
--- What a start comes to, and an entry and a withdrawal where the record holds together, case by case; and the number that each answers as one
+-- What a start comes to, and a filing and a withdrawal where the record holds together, case by case; and the number that each answers as one
 -- list of checks. Assumes nothing.
 use mathlib.Core.Path.{_≡_, refl, ap}
 use mathlib.Core.Bool.{true}
@@ -17,14 +17,16 @@ use Rattle.nights.specs.Nights.{periodsOf}
 use Rattle.nights.specs.declared.Night.{Night}
 use Rattle.nights.proofs.Terms.{term-within}
 use Rattle.records.specs.Record.{standing, overloaded, dead, withdrawn, state, slot, base, sample, together, fresh, marked, filed}
-use Rattle.campaign.specs.Calls.{startChecks, startOutcome, enterChecks, settledOf, termOf, withdrawChecks, lowestFree, slotOfDay, withdrawnOutcome, enterOutcome, withdrawOutcome, stateOf, verdictNumber}
+use Rattle.judging.specs.declared.Judged.{Judged}
+use Rattle.judging.proofs.Heard.{from-passed, judged-long, judged-ranged}
+use Rattle.campaign.specs.Calls.{startChecks, startOutcome, fileChecks, settledOf, termOf, withdrawChecks, lowestFree, slotOfDay, withdrawnOutcome, fileOutcome, withdrawOutcome, stateOf, verdictNumber}
 use Rattle.history.specs.Run.{World}
 use Rattle.records.specs.declared.Campaign.{Campaign}
 use Rattle.campaign.specs.declared.Started.{Started}
 use Rattle.campaign.specs.declared.Entered.{Entered}
 use Rattle.campaign.specs.declared.Withdrawn.{Withdrawn}
 use Rattle.campaign.proofs.EntryCases.{by-cases}
-use Rattle.campaign.proofs.Passing.{Begins, begins, in-day, lowest-free, slot-of-day, enters, judged-long, judged-ranged}
+use Rattle.campaign.proofs.Passing.{Begins, begins, in-day, lowest-free, slot-of-day}
 use Rattle.records.proofs.Holding.{holds-together}
 use Rattle.records.proofs.Refiling.{Day}
 use Rattle.finding.proofs.Exactly.{kept-inside}
@@ -44,7 +46,7 @@ starting w N taps C =
     (λ n h _. refused h refl refl refl)
     (λ p. began refl (begins N taps C (w .store) (w .sums) (accepts (startChecks N taps C (w .store) (w .sums)) p)) refl refl refl)
 
--- ---- an entry
+-- ---- a filing
 
 -- what it comes to: refused, set aside, or kept
 pub data Entering (w : World) (d : ℕ) (night : Night) (y : List ℤ) (o : Entered × List ℤ × List ℤ) : Type 0 where
@@ -59,10 +61,10 @@ pub data Entering (w : World) (d : ℕ) (night : Night) (y : List ℤ) (o : Ente
       → o .0 .campaign ≡ filed (w .campaign) d standing k d (periodsOf night) → o .1 ≡ putAt (base (w .campaign) k) (termOf (w .campaign) night y) (w .store)
       → o .2 ≡ put (table (P (w .campaign .order)) (λ j. at (w .sums) j +ℤ at (termOf (w .campaign) night y) j)) (w .sums) → Entering w d night y o
 
-pub entering : (w : World) (d : ℕ) (night : Night) (y : List ℤ) → together (w .campaign) (w .store) (w .sums) ≡ true
-    → Entering w d night y (enterOutcome (w .campaign) (w .store) (w .sums) d night y)
-entering w d night y t =
-    by-cases c (w .store) (w .sums) d night y (Entering w d night y)
+pub entering : (w : World) (d : ℕ) (night : Night) (y : List ℤ) (v : Judged) → together (w .campaign) (w .store) (w .sums) ≡ true
+    → Entering w d night y (fileOutcome (w .campaign) (w .store) (w .sums) d night y v)
+entering w d night y v t =
+    by-cases c (w .store) (w .sums) d night y v (Entering w d night y)
     (record {
       refused = λ n h _. refused h refl refl refl;
       loud = λ p q e. aside overloaded refl (ap stateOf e) (λ x. omega arith) (omega arith) (day p) (down p) refl refl refl;
@@ -70,7 +72,7 @@ entering w d night y t =
       full = λ p e f. refused (λ x. omega arith) refl refl refl;
       kept = λ p e few.
           let k = lowest-free c (holds-together c (w .store) (w .sums) .0 t .filed) few in
-          let g = enters c (w .store) (w .sums) d night y (accepts (enterChecks c (w .store) (w .sums) d night y) p) in
+          let g = from-passed (c .order) night y (p .1 .1 .0, (p .1 .1 .1 .0, (p .1 .1 .1 .1 .0, tt))) in
           kept (lowestFree c) refl (ap stateOf e) (day p) (down p) (k .0) (k .1) (g .least) (g .most)
           (term-within (P (c .order)) (periodsOf night) (settledOf c night y) (λ i l. kept-inside (settledOf c night y) e (judged-ranged g) i (omega (arith, judged-long g)))) refl refl refl;
     })
@@ -78,10 +80,10 @@ entering w d night y t =
     c : Campaign
     c = w .campaign
 
-    day : Passed (enterChecks (w .campaign) (w .store) (w .sums) d night y) → Day d
+    day : Passed (fileChecks (w .campaign) (w .store) (w .sums) d night y v) → Day d
     day p = in-day d (p .1 .0)
 
-    down : Passed (enterChecks (w .campaign) (w .store) (w .sums) d night y) → state (w .campaign) d ≡ standing → ⊥
+    down : Passed (fileChecks (w .campaign) (w .store) (w .sums) d night y v) → state (w .campaign) d ≡ standing → ⊥
     down p = eqb-false (state (w .campaign) d) standing (p .1 .1 .1 .1 .1 .0)
 
 -- ---- a withdrawal

@@ -6,7 +6,7 @@ use Prim.Native.Nat.{ℕ}
 use borrow.Author.Tests.{eq-eqb}
 use lib.Dec.{T}
 use Rattle.records.specs.Record.{fresh}
-use Rattle.history.specs.Run.{World, Call, start, enter, withdraw, counts, response, summary, answer, accepted, run, starts, underWay, begun}
+use Rattle.history.specs.Run.{World, Call, start, judge, file, withdraw, counts, response, summary, answer, accepted, run, starts, underWay, begun}
 use Rattle.history.proofs.History.{if-alike}
 
 pub stays-under-way : (w : World) (call : Call) (before : List Call) → underWay w before ≡ true → underWay w (call ∷ before) ≡ true
@@ -17,7 +17,8 @@ stays-under-way w call before u =
 pub same-campaign : (w : World) (call : Call) (before : List Call) → starts call ≡ false → begun w (call ∷ before) ≡ begun w before
 unfolding begun
 same-campaign w (start N taps C) before e = absurd (subst T e tt)
-same-campaign w (enter d night y) before _ = if-alike (accepted (run w before) (enter d night y)) (begun w before)
+same-campaign w (judge N taps night y) before _ = if-alike (accepted (run w before) (judge N taps night y)) (begun w before)
+same-campaign w (file d night y s) before _ = if-alike (accepted (run w before) (file d night y s)) (begun w before)
 same-campaign w (withdraw d) before _ = if-alike (accepted (run w before) (withdraw d)) (begun w before)
 same-campaign w counts before _ = if-alike (accepted (run w before) counts) (begun w before)
 same-campaign w (response r mean room tags) before _ = if-alike (accepted (run w before) (response r mean room tags)) (begun w before)

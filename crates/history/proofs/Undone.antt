@@ -22,8 +22,9 @@ use Rattle.samples.specs.Samples.{within}
 use Rattle.nights.specs.Nights.{periodsOf}
 use Rattle.nights.specs.declared.Night.{Night}
 use Rattle.nights.proofs.Terms.{term-long}
-use Rattle.campaign.specs.Calls.{dayOut, settledOf, termOf, withdrawChecks, slotOfDay, withdrawnOutcome, withdrawOutcome, enterOutcome}
-use Rattle.history.specs.Run.{World, enter, withdraw, after, answer, makes}
+use Rattle.campaign.specs.Calls.{dayOut, settledOf, termOf, withdrawChecks, slotOfDay, withdrawnOutcome, withdrawOutcome, fileOutcome, shownTo}
+use Rattle.campaign.specs.declared.Shown.{Shown}
+use Rattle.history.specs.Run.{World, file, withdraw, after, answer, makes}
 use Rattle.records.specs.declared.Campaign.{Campaign}
 use Rattle.records.proofs.Holding.{Together, holds-together}
 use Rattle.records.proofs.Refiling.{Sized, Day, state-same, slot-same, slot-unique}
@@ -168,25 +169,25 @@ pub record Undone (w w′ : World) : Type 0 where
   pub slots : w′ .campaign .slots ≡ w .campaign .slots
   pub periods : w′ .campaign .periods ≡ w .campaign .periods
 
-pub undone : (w : World) → Sized (w .campaign) → together (w .campaign) (w .store) (w .sums) ≡ true → (d : ℕ) (night : Night) (y : List ℤ)
-    → answer w (enter d night y) ≡ 0 → makes w (enter d night y) ≡ standing → Undone w (after (after w (enter d night y)) (withdraw d))
+pub undone : (w : World) → Sized (w .campaign) → together (w .campaign) (w .store) (w .sums) ≡ true → (d : ℕ) (night : Night) (y : List ℤ) (x : Shown)
+    → answer w (file d night y x) ≡ 0 → makes w (file d night y x) ≡ standing → Undone w (after (after w (file d night y x)) (withdraw d))
 unfolding c₁ store₁ sums₁
-undone w z t d night y a m = go (entering w d night y t)
+undone w z t d night y x a m = go (entering w d night y (shownTo (w .campaign) night y x) t)
   where
     h : Together (w .campaign) (w .store) (w .sums)
     h = holds-together (w .campaign) (w .store) (w .sums) .0 t
 
-    go : Entering w d night y (enterOutcome (w .campaign) (w .store) (w .sums) d night y) → Undone w (after (after w (enter d night y)) (withdraw d))
+    go : Entering w d night y (fileOutcome (w .campaign) (w .store) (w .sums) d night y (shownTo (w .campaign) night y x)) → Undone w (after (after w (file d night y x)) (withdraw d))
     go (steps.refused n e g i) = absurd (n a)
     go (steps.aside q b v n l r f e g i) = absurd (n (sym v ∙ m))
     go (steps.kept k b v r n l f least most good e g i) =
         let c = w .campaign in
         let u = periodsOf night in
-        let x = termOf c night y in
+        let total = termOf c night y in
         let long = term-long (P (c .order)) u (settledOf c night y) in
         rw (e, g, i) (record {
-          store = store-back c (w .store) (w .sums) z h d k u x r n l f least most long good;
-          sums = sums-back c (w .store) (w .sums) z h d k u x r n l f least most long good;
-          slots = slots-back c (w .store) (w .sums) z h d k u x r n l f least most long good;
-          periods = periods-back c (w .store) (w .sums) z h d k u x r n l f least most long good;
+          store = store-back c (w .store) (w .sums) z h d k u total r n l f least most long good;
+          sums = sums-back c (w .store) (w .sums) z h d k u total r n l f least most long good;
+          slots = slots-back c (w .store) (w .sums) z h d k u total r n l f least most long good;
+          periods = periods-back c (w .store) (w .sums) z h d k u total r n l f least most long good;
         })

@@ -1,4 +1,4 @@
--- Document 01, "A record holds together when", and document 02, request 1: a run of calls, each given the record that the one before handed back and the same lent
+-- Document 01, "A record holds together when", and document 02, requests 1 and 5: a run of calls, each given the record that the one before handed back and the same lent
 -- memory, untouched between. A start is a call like the others: refused, it leaves the campaign that was under way; accepted, it begins a new
 -- history in the same lent memory. Assumes nothing.
 use mathlib.Core.Path.{_≡_}
@@ -13,7 +13,9 @@ use Rattle.finding.specs.Finding.{finding}
 use Rattle.nights.specs.Nights.{periodsOf}
 use Rattle.nights.specs.declared.Night.{Night}
 use Rattle.records.specs.Record.{unseen, withdrawn, fresh}
-use Rattle.campaign.specs.Calls.{startOutcome, settledOf, enterOutcome, withdrawOutcome, stateOf, verdictNumber}
+use Rattle.judging.specs.Judging.{judging, judgedNumber}
+use Rattle.campaign.specs.Calls.{startOutcome, settledOf, fileOutcome, own, shownTo, withdrawOutcome, stateOf, verdictNumber}
+use Rattle.campaign.specs.declared.Shown.{Shown}
 use Rattle.trend.specs.Calls.{countsOutcome, responseOutcome, summaryOutcome, countsNumber, summaryNumber}
 use Rattle.records.specs.declared.Campaign.{Campaign}
 
@@ -23,22 +25,28 @@ pub record World : Type 0 where
   pub store : List ℤ
   pub sums : List ℤ
 
--- a call with all its arguments but those
+-- a call with all its arguments but those; a filing is handed a verdict, or goes by judging's own
 pub data Call : Type 0 where
   start : ℕ → ℕ → ℕ → Call
-  enter : ℕ → Night → List ℤ → Call
+  judge : ℕ → ℕ → Night → List ℤ → Call
+  file : ℕ → Night → List ℤ → Shown → Call
   withdraw : ℕ → Call
   counts : Call
   response : List ℤ → List ℤ → List ℤ → List ℕ → Call
   summary : List ℤ → List ℕ → Call
 
--- the world after a call: only a start, an entry and a withdrawal hand a record back
+-- an entry is the filing that goes by judging's own verdict
+abbrev pub enter : ℕ → Night → List ℤ → Call
+enter d night y = file d night y own
+
+-- the world after a call: only a start, a filing and a withdrawal hand a record back
 abbrev pub after : World → Call → World
 after w (start N taps C) =
     let o = startOutcome (w .campaign) N taps C (w .store) (w .sums) in
     record { campaign = o .0 .campaign; store = o .1; sums = o .2 }
-after w (enter d night y) =
-    let o = enterOutcome (w .campaign) (w .store) (w .sums) d night y in
+after w (judge N taps night y) = w
+after w (file d night y s) =
+    let o = fileOutcome (w .campaign) (w .store) (w .sums) d night y (shownTo (w .campaign) night y s) in
     record { campaign = o .0 .campaign; store = o .1; sums = o .2 }
 after w (withdraw d) =
     let o = withdrawOutcome (w .campaign) (w .store) (w .sums) d in
@@ -50,7 +58,8 @@ after w (summary room tags) = w
 -- the number that a call answers: 0 is accepted
 abbrev pub answer : World → Call → ℕ
 answer w (start N taps C) = startOutcome (w .campaign) N taps C (w .store) (w .sums) .0 .answer .number
-answer w (enter d night y) = verdictNumber (enterOutcome (w .campaign) (w .store) (w .sums) d night y .0 .entry .verdict)
+answer w (judge N taps night y) = judgedNumber (judging N taps night y)
+answer w (file d night y s) = verdictNumber (fileOutcome (w .campaign) (w .store) (w .sums) d night y (shownTo (w .campaign) night y s) .0 .entry .verdict)
 answer w (withdraw d) = withdrawOutcome (w .campaign) (w .store) (w .sums) d .0 .answer
 answer w counts = countsNumber (countsOutcome (w .campaign) (w .store) (w .sums))
 answer w (response r mean room tags) = responseOutcome (w .campaign) (w .store) (w .sums) r mean room tags .0
@@ -69,7 +78,8 @@ run w (c ∷ earlier) = after (run w earlier) c
 -- whether a call is a start
 abbrev pub starts : Call → Bool
 starts (start N taps C) = true
-starts (enter d night y) = false
+starts (judge N taps night y) = false
+starts (file d night y s) = false
 starts (withdraw d) = false
 starts counts = false
 starts (response r mean room tags) = false
@@ -83,7 +93,8 @@ underWay w (c ∷ earlier) = (starts c && accepted (run w earlier) c) || underWa
 -- the record as the last accepted start made it: its order, taps and slot count are those of the campaign
 abbrev pub begins : Call → Campaign → Campaign
 begins (start N taps C) before = fresh N taps C
-begins (enter d night y) before = before
+begins (judge N taps night y) before = before
+begins (file d night y s) before = before
 begins (withdraw d) before = before
 begins counts before = before
 begins (response r mean room tags) before = before
@@ -95,10 +106,11 @@ begun w (c ∷ earlier) = cond (accepted (run w earlier) c) (begins c (begun w e
 
 -- ---- what the history says
 
--- whether a call names day d: a start names every day
+-- whether a call names day d: a start names every day, and a judgement none
 abbrev pub names : Call → ℕ → Bool
 names (start N taps C) d = true
-names (enter e night y) d = eqb e d
+names (judge N taps night y) d = false
+names (file e night y s) d = eqb e d
 names (withdraw e) d = eqb e d
 names counts d = false
 names (response r mean room tags) d = false
@@ -107,7 +119,8 @@ names (summary room tags) d = false
 -- what an accepted call makes of the day that it names, in the world before it
 abbrev pub makes : World → Call → ℕ
 makes w (start N taps C) = unseen
-makes w (enter d night y) = stateOf (finding (settledOf (w .campaign) night y))
+makes w (judge N taps night y) = unseen
+makes w (file d night y s) = stateOf (finding (settledOf (w .campaign) night y))
 makes w (withdraw d) = withdrawn
 makes w counts = unseen
 makes w (response r mean room tags) = unseen
@@ -133,7 +146,8 @@ nothing = record { periods = 0; samples = [] }
 -- the recording of a call, of which a start leaves none; and the last recording accepted for day d
 abbrev pub recording : World → Call → Heard → Heard
 recording w (start N taps C) before = nothing
-recording w (enter d night y) before = record { periods = periodsOf night; samples = settledOf (w .campaign) night y }
+recording w (judge N taps night y) before = before
+recording w (file d night y s) before = record { periods = periodsOf night; samples = settledOf (w .campaign) night y }
 recording w (withdraw d) before = before
 recording w counts before = before
 recording w (response r mean room tags) before = before

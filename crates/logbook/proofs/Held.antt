@@ -16,13 +16,13 @@ use Rattle.nights.specs.Nights.{lead, periodsOf, periodsOut, nightLength}
 use Rattle.nights.specs.declared.Night.{Night}
 use Rattle.nights.proofs.Terms.{lead-most}
 use Rattle.records.specs.declared.Campaign.{Campaign}
-use Rattle.campaign.specs.Calls.{dayOut, entered, enterOutcome}
+use Rattle.campaign.specs.Calls.{dayOut, entered}
 use Rattle.campaign.specs.declared.Verdict.the-variants as verdict
 use Rattle.log.specs.Kinds.{kindSample}
 use Rattle.log.specs.Phases.{mayStand}
 use Rattle.log.specs.declared.Phase.{Phase}
 use Rattle.log.specs.declared.Phase.the-variants as phase
-use Rattle.logbook.specs.Book.{over, dayLength, unheld, logEnterChecks, enteredBy, enteredOutcome}
+use Rattle.logbook.specs.Book.{over, dayLength, unheld, logEnterChecks, judgedThenFiled, enteredBy, enteredOutcome}
 use Rattle.logbook.specs.declared.Applied.{Applied}
 use Rattle.logbook.proofs.Rows.{day-short}
 
@@ -72,7 +72,7 @@ module _ (c : Campaign) (d : ℕ) (night : Night) (n : ℕ) (store sums y : List
   refusing k = (enteredBy (entered c d (verdict.Refused k)), store, sums)
 
   abbrev pub entering : Applied × List ℤ × List ℤ
-  entering = over enteredBy (enterOutcome c store sums d night (take n y))
+  entering = over enteredBy (judgedThenFiled c d night store sums (take n y))
 
   -- r is the answer of the program's own checks
   module _ (r : ℕ) (told : r ≡ first (logEnterChecks d night)) where

@@ -1,4 +1,4 @@
--- Document 01, "The log program", and document 02, request 1: what each item does to the state between items and to the memory lent, and the line
+-- Document 01, "The log program", and document 02, requests 1 and 5: what each item does to the state between items and to the memory lent, and the line
 -- that it makes, by the campaign's calls. Assumes nothing.
 use mathlib.Core.List.{List, [], _∷_, _++_}
 use mathlib.Core.Bool.{Bool, cond, _&&_, _||_}
@@ -14,7 +14,8 @@ use Rattle.nights.specs.declared.Night.{Night}
 use Rattle.nights.specs.declared.Night.the-variants as night
 use Rattle.records.specs.Record.{fresh}
 use Rattle.records.specs.declared.Campaign.{Campaign}
-use Rattle.campaign.specs.Calls.{slotsOut, dayOut, startOutcome, entered, enterOutcome, withdrawOutcome}
+use Rattle.judging.specs.Judging.{judgeOutcome}
+use Rattle.campaign.specs.Calls.{slotsOut, dayOut, startOutcome, entered, fileOutcome, withdrawOutcome}
 use Rattle.campaign.specs.declared.Started.{Started}
 use Rattle.campaign.specs.declared.Verdict.the-variants as verdict
 use Rattle.campaign.specs.declared.Entered.{Entered}
@@ -86,6 +87,10 @@ tookSample phase.Stopped v y = (phase.Stopped, y)
 abbrev pub logEnterChecks : ℕ → Night → List (ℕ × Bool)
 logEnterChecks d night = (10, unheld (periodsOf night) && dayOut d) ∷ (18, periodsOut night) ∷ (17, ltb 4 (periodsOf night)) ∷ []
 
+-- the campaign's pair: the night is judged, and then filed with that verdict
+abbrev pub judgedThenFiled : Campaign → ℕ → Night → List ℤ → List ℤ → List ℤ → Entered × List ℤ × List ℤ
+judgedThenFiled c d night store sums y = fileOutcome c store sums d night y (judgeOutcome (c .order) (c .taps) night y .verdict)
+
 -- enter closes it
 abbrev pub enteredBy : Entered → Applied
 enteredBy e = said afterEnter (e .campaign) (line.Entered (e .entry))
@@ -93,7 +98,7 @@ enteredBy e = said afterEnter (e .campaign) (line.Entered (e .entry))
 unfoldable pub enteredOutcome : Campaign → ℕ → Night → ℕ → List ℤ → List ℤ → List ℤ → Applied × List ℤ × List ℤ
 enteredOutcome c d night n store sums y =
     outcome (logEnterChecks d night) (λ k. (enteredBy (entered c d (verdict.Refused k)), store, sums))
-    (over enteredBy (enterOutcome c store sums d night (take n y)))
+    (over enteredBy (judgedThenFiled c d night store sums (take n y)))
 
 abbrev pub closedOutcome : Phase → Campaign → List ℤ → List ℤ → List ℤ → Applied × List ℤ × List ℤ
 closedOutcome phase.Unbegun c store sums y = (said phase.Unbegun c line.Silent, store, sums)

@@ -9,9 +9,10 @@ use campaign::Entry;
 use campaign::Started;
 use campaign::Verdict;
 use campaign::Withdrawn;
-use campaign::entering::enter;
+use campaign::entering::file;
 use campaign::starting::start;
 use campaign::withdrawing::withdraw;
+use judging::judging::judge;
 use log::Item;
 use log::Phase;
 use log::phases::after_enter;
@@ -42,7 +43,7 @@ ghost use Rattle.log.specs.Kinds.{kindSample};
 ghost use Rattle.log.specs.Phases.{mayStand};
 ghost use Rattle.log.specs.Log.{kindOf};
 ghost use Rattle.logbook.specs.Book.{unbegunBook, tooLarge, logStartChecks, dayLength, said, startedBy, beganOutcome, unheld, keptSample, tookSample};
-ghost use Rattle.logbook.specs.Book.{logEnterChecks, enteredBy, enteredOutcome, closedOutcome, withdrawnBy, withdrewOutcome, tallied, askedOutcome, memory, applied};
+ghost use Rattle.logbook.specs.Book.{logEnterChecks, judgedThenFiled, enteredBy, enteredOutcome, closedOutcome, withdrawnBy, withdrewOutcome, tallied, askedOutcome, memory, applied};
 
 // The state before the first item.
 pub fn unbegun() -> Book
@@ -185,7 +186,25 @@ fn entered_by(e: Entered) -> Applied
     say(after_enter(), campaign, Line::Entered(entry))
 }
 
-// The open day's recording is entered, refusing 10, 18, 17 where its samples are not kept, and the day is closed.
+// The night is judged, and then filed with the verdict that this gave.
+fn file_night(
+    c: Campaign,
+    day: u32,
+    night: Night,
+    store: &mut [i32],
+    sums: &mut [i64],
+    y: &[i32],
+) -> Entered
+    ensures { λ e. ⌜ (e, now (store .exit), now (sums .exit)) ≡ judgedThenFiled c day night (now (store .entry)) (now (sums .entry)) (now (y .entry)) ⌝ }
+{
+    let order = c.order;
+    let taps = c.taps;
+    let judgement = judge(order, taps, night, y);
+    let verdict = judgement.verdict;
+    file(c, store, sums, day, night, y, verdict)
+}
+
+// The open day's recording is judged and filed, refusing 10, 18, 17 where its samples are not kept, and the day is closed.
 fn enter_day(
     c: Campaign,
     day: u32,
@@ -208,9 +227,9 @@ fn enter_day(
         });
     }
     if n < recording.len() {
-        return entered_by(enter(c, store, sums, day, night, &recording[..n]));
+        return entered_by(file_night(c, day, night, store, sums, &recording[..n]));
     }
-    entered_by(enter(c, store, sums, day, night, recording))
+    entered_by(file_night(c, day, night, store, sums, recording))
 }
 
 fn close(

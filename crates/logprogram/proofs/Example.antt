@@ -15,7 +15,8 @@ use Rattle.rounding.specs.Rounding.{nearest}
 use Rattle.finding.specs.Finding.{finding}
 use Rattle.nights.specs.Nights.{term}
 use Rattle.records.specs.Record.{together}
-use Rattle.campaign.specs.Calls.{startOutcome, enterOutcome, withdrawOutcome}
+use Rattle.judging.specs.Judging.{judgeOutcome}
+use Rattle.campaign.specs.Calls.{startOutcome, fileOutcome, withdrawOutcome}
 use Rattle.trend.specs.Calls.{countsOutcome, responseOutcome}
 use Rattle.log.specs.Log.{decoded}
 use Rattle.report.specs.Lines.{digits}
@@ -47,7 +48,7 @@ exampleLines =
     ++ ascii "response 14 0 0 1 1\n"
 
 pub example-prints : logOutput example ≡ exampleLines
-unfolding logOutput output turn decoded applied beganOutcome startOutcome enteredOutcome enterOutcome term finding withdrawOutcome countsOutcome responseOutcome rowsBytes digits together tapsAnswer period seek some every many total sum sign table put putAt nearest formula.response formula.correlation wave bit window step dot ones
+unfolding logOutput output turn decoded applied beganOutcome startOutcome enteredOutcome fileOutcome judgeOutcome term finding withdrawOutcome countsOutcome responseOutcome rowsBytes digits together tapsAnswer period seek some every many total sum sign table put putAt nearest formula.response formula.correlation wave bit window step dot ones
 example-prints = refl
 
 -- request 1 of document 02: order 3, taps 3, 2 slots; day 1 with two periods behind a run-in, whose seven 8388607s are no overload; ask
@@ -66,7 +67,7 @@ captureLines =
     ascii "start 0\n" ++ ascii "enter 1 0 kept\n" ++ ascii "response 0 1 0 0 0\n" ++ ascii "0 122 8\n1 0 0\n2 -66 -4\n3 4 0\n4 0 0\n5 -2 0\n6 6 0\n"
 
 pub capture-prints : logOutput capture ≡ captureLines
-unfolding logOutput output turn decoded applied beganOutcome startOutcome enteredOutcome enterOutcome term finding countsOutcome responseOutcome rowsBytes digits together tapsAnswer period seek some every many total sum sign table put putAt nearest formula.response formula.correlation wave bit window step dot ones
+unfolding logOutput output turn decoded applied beganOutcome startOutcome enteredOutcome fileOutcome judgeOutcome term finding countsOutcome responseOutcome rowsBytes digits together tapsAnswer period seek some every many total sum sign table put putAt nearest formula.response formula.correlation wave bit window step dot ones
 capture-prints = refl
 
 -- order 2, taps 3, 1 slot; a day of m periods behind a run-in, with one sample, which is not kept

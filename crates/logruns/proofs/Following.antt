@@ -21,10 +21,11 @@ use Rattle.nights.specs.Nights.{periodsOf}
 use Rattle.nights.specs.declared.Night.{Night}
 use Rattle.records.specs.Record.{fresh}
 use Rattle.records.specs.declared.Campaign.{Campaign}
-use Rattle.campaign.specs.Calls.{startOutcome, entered, enterOutcome}
+use Rattle.judging.specs.Judging.{judging}
+use Rattle.campaign.specs.Calls.{startOutcome, entered, handed}
 use Rattle.campaign.specs.declared.Verdict.the-variants as verdict
 use Rattle.trend.specs.Calls.{responseChecks, responseOutcome, worked, meanAt}
-use Rattle.history.specs.Run.{World, Call, start, enter, withdraw, counts, response, after, run, underWay, begun}
+use Rattle.history.specs.Run.{World, Call, start, judge, file, withdraw, counts, response, after, run, underWay, begun}
 use Rattle.history.specs.Run as run-of
 use Rattle.history.proofs.UnderWay.{stays-under-way, same-campaign, started, started-campaign}
 use Rattle.history.proofs.History.{says}
@@ -35,13 +36,13 @@ use Rattle.log.specs.declared.Item.{Item}
 use Rattle.log.specs.declared.Found.{Found}
 use Rattle.log.specs.declared.Found.the-variants as found
 use Rattle.log.proofs.Finding.{Fits, starts, opens, captures, withdraws, asks, samples, enters, whole, bad, end}
-use Rattle.logbook.specs.Book.{Memory, dayLength, logStartChecks, over, startedBy, beganOutcome, unheld, logEnterChecks, enteredBy, enteredOutcome, filing, applied}
+use Rattle.logbook.specs.Book.{Memory, dayLength, logStartChecks, over, startedBy, beganOutcome, unheld, logEnterChecks, judgedThenFiled, enteredBy, enteredOutcome, filing, applied}
 use Rattle.logbook.specs.declared.Applied.{Applied}
 use Rattle.logbook.proofs.Starts as starting
 use Rattle.logbook.proofs.Held.{passed-held}
 use Rattle.logprogram.specs.Program.{Place, zeros, firstMemory, turnOn, standsAt}
 use Rattle.logprogram.proofs.Turns.{StandsAt, found-at, turns}
-use Rattle.logruns.specs.Calls.{firstWorld, callsOf, callsAt, Reached, onward, reached}
+use Rattle.logruns.specs.Calls.{pair, firstWorld, callsOf, callsAt, Reached, onward, reached}
 use Rattle.logruns.proofs.Recording.{Sampled, SampledAt, samples-held}
 use Rattle.logruns.proofs.Recording as recording
 
@@ -152,21 +153,24 @@ module _ (c : Campaign) (m : Memory) (calls : List Call) where
   unfolding beganOutcome
   start-follows N taps C e f g = rw (e, f, g) (began-follows N taps C (first (logStartChecks N taps C)) refl)
 
-  -- a day whose samples are not kept is refused and nothing is called; another is entered with those that came
+  -- a day whose samples are not kept is refused and nothing is called; another is judged and filed with those that came
   entry-follows : (d n : ℕ) (night : Night) (y : List ℤ) → (unheld (periodsOf night) ≡ false → take n (m .recording) ≡ y) → Running calls c m
       → let o = filing m (enteredOutcome c d night n (m .store) (m .sums) (m .recording)) in
-      Follows (answered (first (logEnterChecks d night)) (λ _. []) (enter d night y ∷ []) ++ calls) (o .0 .book .campaign) (o .1) (o .0 .book .phase)
+      Follows (answered (first (logEnterChecks d night)) (λ _. []) (pair c d night y) ++ calls) (o .0 .book .campaign) (o .1) (o .0 .book .phase)
   unfolding enteredOutcome run
   entry-follows d n night y came r = go (first (logEnterChecks d night)) refl
     where
       go : (k : ℕ) → first (logEnterChecks d night) ≡ k
           → let o = filing m (answered k (λ k. (enteredBy (entered c d (verdict.Refused k)), m .store, m .sums))
-          (over enteredBy (enterOutcome c (m .store) (m .sums) d night (take n (m .recording))))) in
-          Follows (answered k (λ _. []) (enter d night y ∷ []) ++ calls) (o .0 .book .campaign) (o .1) (o .0 .book .phase)
+          (over enteredBy (judgedThenFiled c d night (m .store) (m .sums) (take n (m .recording))))) in
+          Follows (answered k (λ _. []) (pair c d night y) ++ calls) (o .0 .book .campaign) (o .1) (o .0 .book .phase)
       go (suc k) e = between r
       go zero e =
-          rw (← (came (passed-held d night e)))
-          (between (onward-running r (enter d night (take n (m .recording))) refl (ap (λ w. after w (enter d night (take n (m .recording)))) (r .world)) (r .room)))
+          let z = take n (m .recording) in
+          let ask = judge (c .order) (c .taps) night z in
+          let filing-it = file d night z (handed (judging (c .order) (c .taps) night z)) in
+          let asked : Running (ask ∷ calls) c m = onward-running r ask refl (r .world) (r .room) in
+          rw (← (came (passed-held d night e))) (between (onward-running asked filing-it refl (ap (λ w. after w filing-it) (r .world)) (r .room)))
 
 module _ (D : ℕ) (c : Campaign) (m : Memory) (offset : ℕ) (going : Bool) (calls : List Call) where
   abbrev standing-at : Phase → Place

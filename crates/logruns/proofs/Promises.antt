@@ -1,16 +1,17 @@
--- What every log is promised: no line of it says 15 or 6, a start prints its answer and after 4 how short the period is, an entry prints its answer or,
+-- What every log is promised: no line of it says 15, 6 or 23, a start prints its answer and after 4 how short the period is, an entry prints its answer or,
 -- where the samples are not kept, the first of 10, 18, 17, and what a response prints is what the history of its calls says, the third demand. For every
 -- input, and after any number of turns. Assumes nothing.
 use mathlib.Core.Path.{_≡_, refl, sym, ap, subst, _∙_}
 use mathlib.Core.Bool.{true, false, cond}
-use mathlib.Core.List.{List, [], _∷_, _++_, append-nil}
+use mathlib.Core.List.{List, [], _++_, append-nil}
 use Prim.Native.Nat.{ℕ, suc, _+_, _*_, _≤_, _<_}
 use native.Mathlib.Omega.{arith}
 use borrow.Author.Tests.{le-leb}
+use lib.Dec.{T}
 use lib.IntN.{ℤ, pos, _*ℤ_}
 use lib.ListN.{length, take, length-replicate}
 use lib.Pow.{pow-mono}
-use Rattle.sums.proofs.First.{not-first, outcome-cases, answered-refused}
+use Rattle.sums.proofs.First.{lacks, not-first, outcome-cases, answered-refused, answers-first}
 use Rattle.sums.specs.Lists.{at}
 use Rattle.sums.specs.Text.{ascii}
 use Rattle.sums.specs.Refusals.{first, answered}
@@ -24,12 +25,12 @@ use Rattle.nights.specs.declared.Night.{Night}
 use Rattle.records.specs.Record.{unseen, standing, overloaded, dead, withdrawn, together}
 use Rattle.records.specs.declared.Campaign.{Campaign}
 use Rattle.records.proofs.Refiling.{Day}
-use Rattle.campaign.specs.Calls.{enterAll, entered, enterOutcome, withdrawChecks, withdrawnOutcome, withdrawOutcome}
+use Rattle.campaign.specs.Calls.{enterAll, entered, enterOutcome, withdrawChecks, withdrawOutcome}
 use Rattle.campaign.proofs.EntryCases.{entry-first}
 use Rattle.campaign.specs.declared.Entered.{Entered}
 use Rattle.campaign.specs.declared.Verdict.the-variants as verdict
 use Rattle.campaign.specs.declared.Withdrawn.{Withdrawn}
-use Rattle.trend.specs.Calls.{countsOutcome, responseOutcome}
+use Rattle.trend.specs.Calls.{countsOutcome, responseChecks, responseOutcome}
 use Rattle.trend.proofs.Enough.{response-enough}
 use Rattle.trend.specs.declared.Tally.{Tally}
 use Rattle.history.specs.Run.{World, Call, enter, withdraw, response, answer, begun, made, heard}
@@ -50,7 +51,7 @@ use Rattle.logbook.proofs.Starts.{never-six}
 use Rattle.logbook.proofs.Held.{held-passes, unheld-refused, unkeptAnswer, unkept-refused, refusing, unkept-entry, kept-entry}
 use Rattle.logprogram.specs.Program.{Place, firstMemory, rowsBytes, printed, took, turnOn, standsAt, turn}
 use Rattle.logprogram.proofs.Turns.{found-at, turns}
-use Rattle.logruns.specs.Calls.{worldOf, firstWorld, entry, callsAt, lineNumber, onward, reached}
+use Rattle.logruns.specs.Calls.{worldOf, firstWorld, pair, entry, callsAt, lineNumber, onward, reached}
 use Rattle.logruns.proofs.Recording.{Sampled, samples-held}
 use Rattle.logruns.proofs.Recording as recording
 use Rattle.logruns.proofs.Following.{Running, Follows, unbegun, between, inside, order-is, order-few, follows}
@@ -77,17 +78,22 @@ module _ {calls : List Call} {c : Campaign} {m : Memory} (r : Running calls c m)
   no-fifteen call e =
       every.no-fifteen firstWorld calls (r .going) call (ap (λ w. answer w call) (sym (r .world)) ∙ e)
 
-  -- ---- 6 is no answer of an entry or of a withdrawal, and a response has room
+  -- ---- 6 and 23 are no answers of an entry or of a withdrawal; nor is 23 one of a response, and that has room
 
-  entry-no-six : (d : ℕ) (night : Night) (y : List ℤ) → answer now (enter d night y) ≡ 6 → ⊥
-  entry-no-six d night y h = not-first 6 (enterAll c (m .store) (m .sums) d night y) tt (sym (entry-first c (m .store) (m .sums) d night y) ∙ h)
+  entry-lacks : (d : ℕ) (night : Night) (y : List ℤ) (k : ℕ) → T (lacks k (enterAll c (m .store) (m .sums) d night y)) → answer now (enter d night y) ≡ k → ⊥
+  entry-lacks d night y k t h = not-first k (enterAll c (m .store) (m .sums) d night y) t (sym (entry-first c (m .store) (m .sums) d night y) ∙ h)
 
-  withdrawal-no-six : (d : ℕ) → answer now (withdraw d) ≡ 6 → ⊥
+  withdrawal-lacks : (d k : ℕ) → T (lacks k (withdrawChecks c (m .store) (m .sums) d)) → answer now (withdraw d) ≡ k → ⊥
   unfolding withdrawOutcome
-  withdrawal-no-six d =
-      outcome-cases {A = Withdrawn × List ℤ × List ℤ} (withdrawChecks c (m .store) (m .sums) d) tt
-      (λ n. (record { answer = n; campaign = c }, m .store, m .sums)) (withdrawnOutcome c (m .store) (m .sums) d) (λ o. o .0 .answer ≡ 6 → ⊥)
-      (λ n _ h g. not-first 6 (withdrawChecks c (m .store) (m .sums) d) tt (h ∙ g)) (λ _ g. omega arith)
+  withdrawal-lacks d k t h =
+      not-first k (withdrawChecks c (m .store) (m .sums) d) t
+      (sym (answers-first (withdrawChecks c (m .store) (m .sums) d) (λ (o : Withdrawn × List ℤ × List ℤ). o .0 .answer) _ _ (λ n. refl) refl) ∙ h)
+
+  response-no-23 : answer now (response (m .r) (m .mean) (m .room) (m .tags)) ≡ 23 → ⊥
+  unfolding responseOutcome
+  response-no-23 h =
+      let checks = responseChecks c (m .store) (m .sums) (m .r) (m .mean) (m .room) (m .tags) in
+      not-first 23 checks tt (sym (answers-first checks (λ (o : ℕ × List ℤ × List ℤ × List ℤ × List ℕ). o .0) _ _ (λ n. refl) refl) ∙ h)
 
   response-no-six : answer now (response (m .r) (m .mean) (m .room) (m .tags)) ≡ 6 → ⊥
   response-no-six =
@@ -95,7 +101,10 @@ module _ {calls : List Call} {c : Campaign} {m : Memory} (r : Running calls c m)
       response-enough c (m .store) (m .sums) (m .r) (m .mean) (m .room) (m .tags) (omega (arith, p, r .room .r-long)) (omega (arith, p, r .room .mean-long))
       (omega (arith, p, r .room .room-long)) (omega (arith, p, r .room .tags-long)) .0
 
--- ---- no line says 15 or 6
+-- ---- no line says 15, 6 or 23
+
+abbrev Spared : ℕ → Type 0
+Spared k = (k ≡ 15 → ⊥) × (k ≡ 6 → ⊥) × (k ≡ 23 → ⊥)
 
 module _ (D : ℕ) (c : Campaign) (m : Memory) (calls : List Call) where
   abbrev number : Phase → Item → ℕ
@@ -109,24 +118,29 @@ module _ (D : ℕ) (c : Campaign) (m : Memory) (calls : List Call) where
       (omega (arith, ap (λ (x : Memory). length (x .sums)) f, length-replicate {A = ℤ} 511 (pos 0)))
 
   entry-number : (d n : ℕ) (night : Night) → Running calls c m
-      → let k = lineNumber (enteredOutcome c d night n (m .store) (m .sums) (m .recording) .0 .line) in (k ≡ 15 → ⊥) × (k ≡ 6 → ⊥)
+      → Spared (lineNumber (enteredOutcome c d night n (m .store) (m .sums) (m .recording) .0 .line))
   unfolding enteredOutcome
   entry-number d n night r =
-      outcome-cases {A = Applied × List ℤ × List ℤ} (logEnterChecks d night) tt _ _ (λ o. (lineNumber (o .0 .line) ≡ 15 → ⊥) × (lineNumber (o .0 .line) ≡ 6 → ⊥))
-      (λ _ _ e. (λ h. not-first 15 (logEnterChecks d night) tt (e ∙ h), λ h. not-first 6 (logEnterChecks d night) tt (e ∙ h)))
-      (λ _. (no-fifteen r (enter d night (take n (m .recording))), entry-no-six r d night (take n (m .recording))))
+      outcome-cases {A = Applied × List ℤ × List ℤ} (logEnterChecks d night) tt _ _ (λ o. Spared (lineNumber (o .0 .line)))
+      (λ _ _ e. (
+        λ h. not-first 15 (logEnterChecks d night) tt (e ∙ h),
+        λ h. not-first 6 (logEnterChecks d night) tt (e ∙ h),
+        λ h. not-first 23 (logEnterChecks d night) tt (e ∙ h),
+      ))
+      (λ _. let z = take n (m .recording) in (no-fifteen r (enter d night z), entry-lacks r d night z 6 tt, entry-lacks r d night z 23 tt))
 
-  item-number : (p : Phase) (i : Item) → Fits D p i → Follows calls c m p → (number p i ≡ 15 → ⊥) × (number p i ≡ 6 → ⊥)
+  item-number : (p : Phase) (i : Item) → Fits D p i → Follows calls c m p → Spared (number p i)
   unfolding applied
   item-number p i (starts {N} {taps} {C}) (unbegun e f g) = (
     λ h. not-first 15 (logStartChecks N taps C) tt (sym (ap lineNumber (start-line p N taps C f)) ∙ h),
     λ h. not-first 6 (logStartChecks N taps C) tt (sym (ap lineNumber (start-line p N taps C f)) ∙ h),
+    λ h. not-first 23 (logStartChecks N taps C) tt (sym (ap lineNumber (start-line p N taps C f)) ∙ h),
   )
-  item-number p i opens (between r) = (λ h. omega arith, λ h. omega arith)
-  item-number p i captures (between r) = (λ h. omega arith, λ h. omega arith)
-  item-number p i (withdraws {d}) (between r) = (no-fifteen r (withdraw d), withdrawal-no-six r d)
-  item-number p i asks (between r) = (no-fifteen r (response (m .r) (m .mean) (m .room) (m .tags)), response-no-six r)
-  item-number p i (samples h) (inside r) = (λ h. omega arith, λ h. omega arith)
+  item-number p i opens (between r) = (λ h. omega arith, λ h. omega arith, λ h. omega arith)
+  item-number p i captures (between r) = (λ h. omega arith, λ h. omega arith, λ h. omega arith)
+  item-number p i (withdraws {d}) (between r) = (no-fifteen r (withdraw d), withdrawal-lacks r d 6 tt, withdrawal-lacks r d 23 tt)
+  item-number p i asks (between r) = (no-fifteen r (response (m .r) (m .mean) (m .room) (m .tags)), response-no-six r, response-no-23 r)
+  item-number p i (samples h) (inside r) = (λ h. omega arith, λ h. omega arith, λ h. omega arith)
   item-number p i (enters {d} {n} {night}) (inside r) = entry-number d n night r
 
 module _ (n : ℕ) (input : List ℕ) where
@@ -144,7 +158,7 @@ module _ (n : ℕ) (input : List ℕ) where
     text-is : said ≡ printed (applied (here .book) i (here .memory))
     text-is = ap (λ t. t .text) (turns here (reached n input .left) true ∙ ap (turnOn here) stands)
 
-    numbers : (lineNumber (applied (here .book) i (here .memory) .0 .line) ≡ 15 → ⊥) × (lineNumber (applied (here .book) i (here .memory) .0 .line) ≡ 6 → ⊥)
+    numbers : Spared (lineNumber (applied (here .book) i (here .memory) .0 .line))
     numbers =
         item-number (dayLength (here .book .campaign .order)) (here .book .campaign) (here .memory) (reached n input .calls)
         (here .book .phase) i fits (follows n input)
@@ -154,6 +168,9 @@ module _ (n : ℕ) (input : List ℕ) where
 
     pub never-says-6 : lineNumber (applied (here .book) i (here .memory) .0 .line) ≡ 6 → ⊥
     never-says-6 = numbers .1
+
+    pub never-says-23 : lineNumber (applied (here .book) i (here .memory) .0 .line) ≡ 23 → ⊥
+    never-says-23 = numbers .2
 
 -- ---- what a start prints, where one stands after n turns
 
@@ -219,11 +236,11 @@ module _ (n : ℕ) (input : List ℕ) (k : ℕ) (stands : standsAt (here n input
       text-is n input item.Enter k stands ∙ ap printed (applied-is (enteredBy e, store, sums) q) ∙ append-nil (lineBytes (line.Entered (e .entry)))
 
   calls-are : (a : ℕ) → first (logEnterChecks d night) ≡ a
-      → onward (reached n input) .calls ≡ answered a (λ _. []) (enter d night y ∷ []) ++ reached n input .calls
+      → onward (reached n input) .calls ≡ answered a (λ _. []) (pair c d night y) ++ reached n input .calls
   calls-are a e =
       ap (λ f. callsAt (here n input) y f ++ reached n input .calls) stands
-      ∙ ap (λ p. entry p y ++ reached n input .calls) day
-      ∙ ap (λ b. answered b (λ _. []) (enter d night y ∷ []) ++ reached n input .calls) e
+      ∙ ap (λ p. entry c p y ++ reached n input .calls) day
+      ∙ ap (λ b. answered b (λ _. []) (pair c d night y) ++ reached n input .calls) e
 
   came : {p : Phase} → p ≡ phase.Open d night i → Sampled y (m .recording) p → unheld (periodsOf night) ≡ false → take i (m .recording) ≡ y
   came e s = go (subst (Sampled y (m .recording)) e s)
@@ -241,7 +258,7 @@ module _ (n : ℕ) (input : List ℕ) (k : ℕ) (stands : standsAt (here n input
     pub unkept-calls : onward (reached n input) .calls ≡ reached n input .calls
     unkept-calls =
         calls-are (unkeptAnswer d night) (unheld-refused d night u)
-        ∙ ap (λ l. l ++ reached n input .calls) (answered-refused (λ _. []) (enter d night y ∷ []) (unkeptAnswer d night) (unkept-refused d night))
+        ∙ ap (λ l. l ++ reached n input .calls) (answered-refused (λ _. []) (pair c d night y) (unkeptAnswer d night) (unkept-refused d night))
 
     pub unkept-stays : onward (reached n input) .place
         ≡ record { book = record { phase = phase.Between; campaign = c }; memory = m; offset = here n input .offset + k; going = true }
@@ -252,7 +269,7 @@ module _ (n : ℕ) (input : List ℕ) (k : ℕ) (stands : standsAt (here n input
         (applied-is (refusing c d night i (m .store) (m .sums) (m .recording) (unkeptAnswer d night))
         (unkept-entry c d night i (m .store) (m .sums) (m .recording) u)))
 
-  -- where they are, the answer of the entry with those that came since the day was opened
+  -- where they are, the answer of the entry with those that came since the day was opened, made by judging and then filing
   module _ (u : unheld (periodsOf night) ≡ false) where
     pub prints-kept : said n input ≡ lineBytes (line.Entered (enterOutcome c (m .store) (m .sums) d night y .0 .entry))
     prints-kept =
@@ -261,7 +278,7 @@ module _ (n : ℕ) (input : List ℕ) (k : ℕ) (stands : standsAt (here n input
         (kept-entry c d night i (m .store) (m .sums) (m .recording) u)
         ∙ ap (λ z. lineBytes (line.Entered (o z .0 .entry))) (came day (samples-held n input .day) u)
 
-    pub kept-calls : onward (reached n input) .calls ≡ enter d night y ∷ reached n input .calls
+    pub kept-calls : onward (reached n input) .calls ≡ pair c d night y ++ reached n input .calls
     kept-calls = calls-are 0 (held-passes d night u)
 
 -- ---- the third demand, of what an ask prints

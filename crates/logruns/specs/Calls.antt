@@ -1,4 +1,4 @@
--- Document 01, "The log program", and document 02, request 1: the first turns of the program on a whole input, what they print, and the campaign's calls that they
+-- Document 01, "The log program", and document 02, requests 1 and 5: the first turns of the program on a whole input, what they print, and the campaign's calls that they
 -- make. Assumes nothing.
 use mathlib.Core.List.{List, [], _∷_, _++_}
 use mathlib.Core.Bool.{true, cond}
@@ -6,8 +6,11 @@ use Prim.Native.Nat.{ℕ, zero, suc}
 use lib.IntN.{ℤ}
 use lib.ListN.{drop}
 use Rattle.sums.specs.Refusals.{first, answered}
-use Rattle.campaign.specs.Calls.{verdictNumber}
-use Rattle.history.specs.Run.{World, Call, start, enter, withdraw, counts, response}
+use Rattle.nights.specs.declared.Night.{Night}
+use Rattle.judging.specs.Judging.{judging}
+use Rattle.records.specs.declared.Campaign.{Campaign}
+use Rattle.campaign.specs.Calls.{handed, verdictNumber}
+use Rattle.history.specs.Run.{World, Call, start, judge, file, withdraw, counts, response}
 use Rattle.log.specs.declared.Phase.{Phase}
 use Rattle.log.specs.declared.Phase.the-variants as phase
 use Rattle.log.specs.declared.Item.{Item}
@@ -46,19 +49,23 @@ samplesAt y found.End = y
 
 -- ---- the calls that an item makes, the latest first
 
--- the open day is entered with the samples that came, where the program's own checks pass
-abbrev pub entry : Phase → List ℤ → List Call
-entry phase.Unbegun y = []
-entry phase.Between y = []
-entry (phase.Open d night n) y = answered (first (logEnterChecks d night)) (λ _. []) (enter d night y ∷ [])
-entry phase.Stopped y = []
+-- a night is judged, and then filed with that verdict
+abbrev pub pair : Campaign → ℕ → Night → List ℤ → List Call
+pair c d night y = file d night y (handed (judging (c .order) (c .taps) night y)) ∷ judge (c .order) (c .taps) night y ∷ []
+
+-- so is the open day with the samples that came, where the program's own checks pass
+abbrev pub entry : Campaign → Phase → List ℤ → List Call
+entry c phase.Unbegun y = []
+entry c phase.Between y = []
+entry c (phase.Open d night n) y = answered (first (logEnterChecks d night)) (λ _. []) (pair c d night y)
+entry c phase.Stopped y = []
 
 -- a start is called where the program's own checks pass
 abbrev pub callsOf : Place → List ℤ → Item → List Call
 callsOf p y (item.Start N taps C) = answered (first (logStartChecks N taps C)) (λ _. []) (start N taps C ∷ [])
 callsOf p y (item.Open d) = []
 callsOf p y (item.Sample v) = []
-callsOf p y item.Enter = entry (p .book .phase) y
+callsOf p y item.Enter = entry (p .book .campaign) (p .book .phase) y
 callsOf p y (item.Withdraw d) = withdraw d ∷ []
 callsOf p y item.Ask = counts ∷ response (p .memory .r) (p .memory .mean) (p .memory .room) (p .memory .tags) ∷ []
 callsOf p y (item.Capture d m) = []

@@ -2,4 +2,5 @@
 mod Copying
 pub mod Opening
 pub mod Telling
+pub mod Showing
 pub mod Starting

@@ -1,23 +1,27 @@
--- The doors of the campaign's calls: the record crosses as its order, taps and capacity and three lent tables, `days` of 366, `slots` of 64 and
+-- The doors of judging and of the campaign's calls: the record crosses as its order, taps and capacity and three lent tables, `days` of 366, `slots` of 64 and
 -- `periods` of 64, and each door is the call's own outcome function between them. At a start a shorter table is room too short, 6 in its place; at every other call
 -- it is refused with 15, before the call's checks. Either way nothing is touched; a longer table keeps its tail. Assumes nothing.
 use mathlib.Core.List.{List, [], _∷_, _++_}
-use mathlib.Core.Bool.{Bool, _||_}
+use mathlib.Core.Bool.{Bool, cond, not, _||_}
 use Prim.Native.Nat.{ℕ, _*_}
-use lib.Dec.{ltb}
+use lib.Dec.{eqb, ltb}
 use lib.IntN.{ℤ}
 use lib.ListN.{length, take}
 use Rattle.sums.specs.Lists.{put}
-use Rattle.sums.specs.Refusals.{outcome, meant}
+use Rattle.sums.specs.Refusals.{outcome, Meaning, accepts, refuses, meant}
 use Rattle.register.specs.Register.{P}
 use Rattle.register.specs.Calls.{tapsChecks}
 use Rattle.samples.specs.Samples.{clearedWide}
 use Rattle.nights.specs.declared.Night.{Night}
-use Rattle.records.specs.Record.{fresh}
+use Rattle.judging.specs.Judging.{judging}
+use Rattle.judging.specs.declared.Judged.{Judged}
+use Rattle.judging.specs.declared.Judged.the-variants as judged
+use Rattle.records.specs.Record.{standing, overloaded, dead, fresh}
 use Rattle.records.specs.declared.Campaign.{Campaign}
+use Rattle.campaign.specs.declared.Shown.{Shown}
 use Rattle.campaign.specs.declared.Entered.{Entered}
 use Rattle.campaign.specs.declared.Withdrawn.{Withdrawn}
-use Rattle.campaign.specs.Calls.{slotsOut, enterOutcome, withdrawOutcome, verdictMeans, verdictNumber}
+use Rattle.campaign.specs.Calls.{slotsOut, fileOutcome, shownTo, withdrawOutcome, verdictMeans, verdictNumber}
 use Rattle.trend.specs.declared.Tally.{Tally}
 use Rattle.trend.specs.declared.Counts.{Counts}
 use Rattle.trend.specs.declared.Levels.{Levels}
@@ -59,7 +63,27 @@ startDoor N taps C days slots periods store sums =
       clearedWide (P N) sums,
     )
 
--- ---- enter, of either kind of night: and the verdict
+-- ---- judge, of either kind of night: the answer, the state that the verdict would give the day, and its place
+
+-- kept has no slot, so that its value is 0
+abbrev pub judgedMeans : Judged → Meaning (ℕ × ℕ)
+judgedMeans judged.Kept = accepts (standing, 0)
+judgedMeans (judged.Overloaded p) = accepts (overloaded, p)
+judgedMeans judged.Dead = accepts (dead, 0)
+judgedMeans (judged.Refused n) = refuses n
+
+abbrev pub judgedOut : ℕ → ℕ → Judged → ℕ × ℕ × ℕ
+judgedOut state value v = (judgedMeans v .0, judgedMeans v .1 (state, value) .0, judgedMeans v .1 (state, value) .1)
+
+abbrev pub judgeDoor : ℕ → ℕ → Night → List ℤ → ℕ → ℕ → ℕ × ℕ × ℕ
+judgeDoor N taps night y state value = judgedOut state value (judging N taps night y)
+
+-- ---- file and enter, of either kind of night: and the verdict
+
+-- the verdict that comes back as such a pair; one that says none is 23
+abbrev pub pairSays : ℕ → ℕ → Judged
+pairSays q v = cond (eqb q overloaded) (judged.Overloaded v)
+    (cond (not (eqb v 0)) (judged.Refused 23) (cond (eqb q standing) judged.Kept (cond (eqb q dead) judged.Dead (judged.Refused 23))))
 
 abbrev pub enteredOut : List ℕ → List ℕ → List ℕ → ℕ → ℕ → Entered × List ℤ × List ℤ → ℕ × List ℕ × List ℕ × List ℕ × List ℤ × List ℤ × ℕ × ℕ
 enteredOut days slots periods state value (e, store, sums) = (
@@ -73,10 +97,11 @@ enteredOut days slots periods state value (e, store, sums) = (
   verdictMeans (e .entry .verdict) .1 (state, value) .1,
 )
 
-unfoldable pub enterDoor : ℕ → ℕ → ℕ → List ℕ → List ℕ → List ℕ → List ℤ → List ℤ → ℕ → Night → List ℤ → ℕ → ℕ → ℕ × List ℕ × List ℕ × List ℕ × List ℤ × List ℤ × ℕ × ℕ
-enterDoor N taps C days slots periods store sums d night y state value =
+unfoldable pub fileDoor : ℕ → ℕ → ℕ → List ℕ → List ℕ → List ℕ → List ℤ → List ℤ → ℕ → Night → List ℤ → Shown → ℕ → ℕ → ℕ × List ℕ × List ℕ × List ℕ × List ℤ × List ℤ × ℕ × ℕ
+fileDoor N taps C days slots periods store sums d night y s state value =
+    let c = recordOf N taps C days slots periods in
     behind days slots periods (λ n. (n, days, slots, periods, store, sums, state, value))
-    (enteredOut days slots periods state value (enterOutcome (recordOf N taps C days slots periods) store sums d night y))
+    (enteredOut days slots periods state value (fileOutcome c store sums d night y (shownTo c night y s)))
 
 -- ---- withdraw
 

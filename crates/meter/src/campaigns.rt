@@ -1,24 +1,20 @@
-// The doors of a campaign's calls: the record crosses as three numbers and three lent tables.
+// The doors of a campaign's calls but those that file a night: the record crosses as three numbers and three lent tables.
 use crate::periods::write_answer;
 use crate::tables::read_record;
 use crate::tables::tables_short;
 use crate::tables::write_record;
 use crate::verdicts::write_counts;
 use crate::verdicts::write_summary;
-use crate::verdicts::write_verdict;
-use campaign::entering::enter;
 use campaign::starting::start;
 use campaign::starting::start_refusal;
 use campaign::withdrawing::withdraw;
-use nights::Night;
 use register::telling::tell;
 use trend::answering::response;
 use trend::counting::counts;
 use trend::summarising::summary;
 ghost use mathlib.Core.Path.{_≡_};
 ghost use Rattle.register.specs.Calls.{told};
-ghost use Rattle.nights.specs.Nights.{period, capture};
-ghost use Rattle.meter.specs.Doors.{startDoor, enterDoor, withdrawDoor, countsDoor, responseDoor, summaryDoor};
+ghost use Rattle.meter.specs.Doors.{startDoor, withdrawDoor, countsDoor, responseDoor, summaryDoor};
 
 // A short table is room too short, so the start is refused as one that is lent no memory.
 #[no_mangle]
@@ -47,111 +43,6 @@ pub extern "C" fn meter_start(
     write_record(made, days, slots, periods);
     let answer = started.answer;
     write_answer(answer, period)
-}
-
-// Either kind of night.
-fn enter_night(
-    order: u32,
-    taps: u32,
-    capacity: u32,
-    days: &mut [u8],
-    slots: &mut [u16],
-    periods: &mut [u8],
-    store: &mut [i32],
-    sums: &mut [i64],
-    day: u32,
-    night: Night,
-    y: &[i32],
-    state: &mut u32,
-    value: &mut usize,
-) -> u32
-    ensures { λ r. ⌜ (r, now (days .exit), now (slots .exit), now (periods .exit), now (store .exit), now (sums .exit), now (state .exit), now (value .exit))
-        ≡ enterDoor order taps capacity (now (days .entry)) (now (slots .entry)) (now (periods .entry)) (now (store .entry)) (now (sums .entry)) day night (now (y .entry))
-        (now (state .entry)) (now (value .entry)) ⌝ }
-{
-    if tables_short(days.len(), slots.len(), periods.len()) {
-        return 15;
-    }
-    let c = read_record(order, taps, capacity, days, slots, periods);
-    let entered = enter(c, store, sums, day, night, y);
-    let made = entered.campaign;
-    write_record(made, days, slots, periods);
-    let entry = entered.entry;
-    let verdict = entry.verdict;
-    write_verdict(verdict, state, value)
-}
-
-#[no_mangle]
-pub extern "C" fn meter_enter(
-    order: u32,
-    taps: u32,
-    capacity: u32,
-    days: &mut [u8],
-    slots: &mut [u16],
-    periods: &mut [u8],
-    store: &mut [i32],
-    sums: &mut [i64],
-    day: u32,
-    y: &[i32],
-    state: &mut u32,
-    value: &mut usize,
-) -> u32
-    ensures { λ r. ⌜ (r, now (days .exit), now (slots .exit), now (periods .exit), now (store .exit), now (sums .exit), now (state .exit), now (value .exit))
-        ≡ enterDoor order taps capacity (now (days .entry)) (now (slots .entry)) (now (periods .entry)) (now (store .entry)) (now (sums .entry)) day period (now (y .entry))
-        (now (state .entry)) (now (value .entry)) ⌝ }
-{
-    enter_night(
-        order,
-        taps,
-        capacity,
-        days,
-        slots,
-        periods,
-        store,
-        sums,
-        day,
-        Night::Period,
-        y,
-        state,
-        value,
-    )
-}
-
-#[no_mangle]
-pub extern "C" fn meter_capture(
-    order: u32,
-    taps: u32,
-    capacity: u32,
-    days: &mut [u8],
-    slots: &mut [u16],
-    periods: &mut [u8],
-    store: &mut [i32],
-    sums: &mut [i64],
-    day: u32,
-    m: u32,
-    y: &[i32],
-    state: &mut u32,
-    value: &mut usize,
-) -> u32
-    ensures { λ r. ⌜ (r, now (days .exit), now (slots .exit), now (periods .exit), now (store .exit), now (sums .exit), now (state .exit), now (value .exit))
-        ≡ enterDoor order taps capacity (now (days .entry)) (now (slots .entry)) (now (periods .entry)) (now (store .entry)) (now (sums .entry)) day (capture m) (now (y .entry))
-        (now (state .entry)) (now (value .entry)) ⌝ }
-{
-    enter_night(
-        order,
-        taps,
-        capacity,
-        days,
-        slots,
-        periods,
-        store,
-        sums,
-        day,
-        Night::Capture(m),
-        y,
-        state,
-        value,
-    )
 }
 
 #[no_mangle]

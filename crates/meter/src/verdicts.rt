@@ -1,5 +1,6 @@
-// The cases of a campaign's answers as numbers.
+// The cases of a campaign's answers as numbers, and a verdict that comes back as such.
 use campaign::Verdict;
+use judging::Judged;
 use records::DEAD;
 use records::OVERLOADED;
 use records::STANDING;
@@ -9,6 +10,7 @@ ghost use mathlib.Core.Path.{_≡_};
 ghost use Rattle.sums.specs.Refusals.{meant};
 ghost use Rattle.campaign.specs.Calls.{verdictMeans};
 ghost use Rattle.trend.specs.Calls.{countsMeans, summaryMeans};
+ghost use Rattle.meter.specs.Doors.{judgedMeans, pairSays};
 
 // The answer; the state that the verdict gives the day, and the verdict's value, where it is lent.
 pub fn write_verdict(verdict: Verdict, state: &mut u32, value: &mut usize) -> u32
@@ -32,6 +34,49 @@ pub fn write_verdict(verdict: Verdict, state: &mut u32, value: &mut usize) -> u3
         }
         Verdict::Refused(n) => n,
     }
+}
+
+// The same of a verdict before anything is filed, which has no slot.
+pub fn write_judged(verdict: Judged, state: &mut u32, value: &mut usize) -> u32
+    ensures { λ r. ⌜ (r, (now (state .exit), now (value .exit))) ≡ meant (now (state .entry), now (value .entry)) (judgedMeans verdict) ⌝ }
+{
+    match verdict {
+        Judged::Kept => {
+            *state = STANDING as u32;
+            *value = 0;
+            0
+        }
+        Judged::Overloaded(p) => {
+            *state = OVERLOADED as u32;
+            *value = p;
+            0
+        }
+        Judged::Dead => {
+            *state = DEAD as u32;
+            *value = 0;
+            0
+        }
+        Judged::Refused(n) => n,
+    }
+}
+
+// The verdict that such a state and value say. A pair that says none becomes one that judging gives to no night that may be filed.
+pub fn verdict_said(state: u32, value: usize) -> Judged
+    ensures { λ v. ⌜ v ≡ pairSays state value ⌝ }
+{
+    if state == OVERLOADED as u32 {
+        return Judged::Overloaded(value);
+    }
+    if value != 0 {
+        return Judged::Refused(23);
+    }
+    if state == STANDING as u32 {
+        return Judged::Kept;
+    }
+    if state == DEAD as u32 {
+        return Judged::Dead;
+    }
+    Judged::Refused(23)
 }
 
 // The answer; the days in each state where they are lent.

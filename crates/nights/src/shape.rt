@@ -1,8 +1,9 @@
 // How many periods a night has, and how many samples.
+use crate::MOST_PERIODS;
 use crate::Night;
 ghost use mathlib.Core.Path.{_≡_};
 ghost use Prim.Native.Nat.{_*_, _≤_};
-ghost use Rattle.nights.specs.Nights.{lead, periodsOf, nightLength};
+ghost use Rattle.nights.specs.Nights.{lead, periodsOf, periodsOut, nightLength};
 
 // How many periods of run-in it has.
 pub fn lead_of(night: Night) -> u32
@@ -22,6 +23,14 @@ pub fn periods_of(night: Night) -> u32
         Night::Period => 1,
         Night::Capture(m) => m,
     }
+}
+
+// Whether so many may not count.
+pub fn periods_out(night: Night) -> bool
+    ensures { λ r. ⌜ r ≡ periodsOut night ⌝ }
+{
+    let m = periods_of(night);
+    m < 1 || MOST_PERIODS < m
 }
 
 // How many samples its run-in has.

@@ -4,7 +4,7 @@ use mathlib.Core.Logic.{_↔_, _⊎_, inl, inr}
 use mathlib.Core.Bool.{true, false, _||_}
 use Prim.Native.Nat.{ℕ, suc, _+_, _*_, _≤_}
 use native.Mathlib.Omega.{arith}
-use borrow.Author.Tests.{le-leb, leb-true, lt-ltb, ltb-false}
+use borrow.Author.Tests.{le-leb, le-ltb, leb-true, lt-ltb, ltb-false}
 use lib.Dec.{T, ltb, leb}
 use lib.IntN.{ℤ, pos, negsuc, negℤ, natAbs, _+ℤ_}
 use lib.Signed.{ltZ, leZ}
@@ -50,6 +50,14 @@ off-rails z h = never-true (rail z) (λ e. at-one (rail-exactly z .0 e))
     at-one : (z ≡ lowest) ⊎ (z ≡ highest) → ⊥
     at-one (inl e) = clash (ap (λ x. ltZ x (leastOf 1) || ltZ (mostOf 1) x) e)
     at-one (inr e) = clash (ap (λ x. ltZ x (leastOf 1) || ltZ (mostOf 1) x) e)
+
+-- and in the range
+pub off-out : (z : ℤ) → ltZ z (leastOf 1) || ltZ (mostOf 1) z ≡ false → sampleOut z ≡ false
+off-out z h = go z (or-false (ltZ z (leastOf 1)) (ltZ (mostOf 1) z) h)
+  where
+    go : (z : ℤ) → (ltZ z (leastOf 1) ≡ false) × (ltZ (mostOf 1) z ≡ false) → sampleOut z ≡ false
+    go (pos n) h = le-ltb 8388607 n (omega (arith, ltb-false 8388606 n (h .1)))
+    go (negsuc n) h = ap (λ b. b || false) (le-ltb 8388607 n (omega (arith, ltb-false 8388606 n (h .0))))
 
 -- ---- sums of samples
 

@@ -10,10 +10,10 @@ use lib.Seq.{length-take-le, take-all}
 use Rattle.sums.specs.Refusals.{first}
 use Rattle.nights.specs.declared.Night.{Night}
 use Rattle.records.specs.declared.Campaign.{Campaign}
-use Rattle.campaign.specs.Calls.{entered, enterOutcome}
+use Rattle.campaign.specs.Calls.{entered}
 use Rattle.campaign.specs.declared.Verdict.the-variants as verdict
 use Rattle.campaign.specs.declared.Entered.{Entered}
-use Rattle.logbook.specs.Book.{over, logEnterChecks, enteredBy, enteredOutcome}
+use Rattle.logbook.specs.Book.{over, logEnterChecks, judgedThenFiled, enteredBy, enteredOutcome}
 use Rattle.logbook.specs.declared.Applied.{Applied}
 use Rattle.logbook.proofs.Held.{refused-entry, passed-entry}
 use Rattle.logbook.proofs.applying.enter_day.Statement.{statement}
@@ -25,9 +25,9 @@ module _ (c : Campaign) (d : ℕ) (night : Night) (n : ℕ) (store sums y : List
 
   -- what is entered is the first n of the recording
   of-the-first : r ≡ 0 → {z : List ℤ} → z ≡ take n y → {x : Applied} {e : Entered} {st su : List ℤ} → x ≡ enteredBy e
-      → (e, st, su) ≡ enterOutcome c store sums d night z → (x, st, su) ≡ enteredOutcome c d night n store sums y
+      → (e, st, su) ≡ judgedThenFiled c d night store sums z → (x, st, su) ≡ enteredOutcome c d night n store sums y
   of-the-first h q p o =
-      rw p (ap (over enteredBy) (o ∙ ap (enterOutcome c store sums d night) q)) ∙ sym (passed-entry c d night n store sums y r told h)
+      rw p (ap (over enteredBy) (o ∙ ap (judgedThenFiled c d night store sums) q)) ∙ sym (passed-entry c d night n store sums y r told h)
 
 night-refusal-requires : tie.Need-night-refusal-requires
 night-refusal-requires c κs = search needs
@@ -42,13 +42,13 @@ returns c =
     refused (a .c) (a .day) (a .night) (a .n) (a .store .now) (a .sums .now) (a .recording .now) (b .night-refusal .result) (b .night-refusal .ensures)
     (c .before .if1 .taken) (c .entered-by .ensures)
 
-slice-aggregate-enter : tie.Need-slice-aggregate-enter
-slice-aggregate-enter c =
+slice-aggregate-file-night : tie.Need-slice-aggregate-file-night
+slice-aggregate-file-night c =
     let s = c .before .before .before .before .before .before in
     sym (length-take-le (s .args .n) (s .args .recording .now) (omega arith))
 
-enter-requires : tie.Need-enter-requires
-enter-requires c κs = search needs
+file-night-requires : tie.Need-file-night-requires
+file-night-requires c κs = search needs
 
 entered-by-requires-2 : tie.Need-entered-by-requires-2
 entered-by-requires-2 c κs = search needs
@@ -66,10 +66,10 @@ returns-2 c =
     let b = e .before in
     let a = b .before .args in
     of-the-first (a .c) (a .day) (a .night) (a .n) (a .store .now) (a .sums .now) (a .recording .now) (b .night-refusal .result) (b .night-refusal .ensures)
-    (e .if1 .left) refl (c .entered-by2 .ensures) (o .enter .ensures)
+    (e .if1 .left) refl (c .entered-by2 .ensures) (o .file-night .ensures)
 
-enter-requires-2 : tie.Need-enter-requires-2
-enter-requires-2 c κs = search needs
+file-night-requires-2 : tie.Need-file-night-requires-2
+file-night-requires-2 c κs = search needs
 
 entered-by-requires-3 : tie.Need-entered-by-requires-3
 entered-by-requires-3 c κs = search needs
@@ -88,7 +88,7 @@ returns-3 c =
     let b = e .before in
     let a = b .before .args in
     of-the-first (a .c) (a .day) (a .night) (a .n) (a .store .now) (a .sums .now) (a .recording .now) (b .night-refusal .result) (b .night-refusal .ensures)
-    (e .if1 .left) (sym (take-all (a .n) (a .recording .now) (t .if2 .left))) (c .entered-by3 .ensures) (o .enter2 .ensures)
+    (e .if1 .left) (sym (take-all (a .n) (a .recording .now) (t .if2 .left))) (c .entered-by3 .ensures) (o .file-night2 .ensures)
 
 pub enter-day-spec : {M : Type 1} → statement M
 enter-day-spec =
@@ -97,13 +97,13 @@ enter-day-spec =
     night-refusal-requires
     entered-by-requires
     returns
-    slice-aggregate-enter
-    enter-requires
+    slice-aggregate-file-night
+    file-night-requires
     entered-by-requires-2
     same-length
     same-length-2
     returns-2
-    enter-requires-2
+    file-night-requires-2
     entered-by-requires-3
     same-length-3
     same-length-4

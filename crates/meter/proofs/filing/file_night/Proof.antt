@@ -1,4 +1,4 @@
--- `meter::campaigns::enter_night` meets its contract. Assumes nothing.
+-- `meter::filing::file_night` meets its contract. Assumes nothing.
 use mathlib.Core.Path.{_≡_, sym, ap, _∙_}
 use mathlib.Core.Bool.{true, false}
 use mathlib.Core.List.{List}
@@ -10,26 +10,27 @@ use Rattle.sums.specs.Refusals.{meant}
 use Rattle.nights.specs.declared.Night.{Night}
 use Rattle.records.specs.declared.Campaign.{Campaign}
 use Rattle.campaign.specs.declared.Entered.{Entered}
-use Rattle.campaign.specs.Calls.{enterOutcome, verdictMeans}
-use Rattle.meter.specs.Doors.{tablesShort, recordOf, enteredOut, enterDoor}
+use Rattle.campaign.specs.declared.Shown.{Shown}
+use Rattle.campaign.specs.Calls.{fileOutcome, shownTo, verdictMeans}
+use Rattle.meter.specs.Doors.{tablesShort, recordOf, enteredOut, fileDoor}
 use Rattle.meter.proofs.Opening.{shut, through, long}
-use Rattle.meter.proofs.campaigns.enter_night.Statement.{statement}
-use Rattle.meter.proofs.campaigns.enter_night.Tie as tie
+use Rattle.meter.proofs.filing.file_night.Statement.{statement}
+use Rattle.meter.proofs.filing.file_night.Tie as tie
 
-module _ (N taps C : ℕ) (days slots periods : List ℕ) (store sums : List ℤ) (d : ℕ) (night : Night) (y : List ℤ) (state value : ℕ) where
+module _ (N taps C : ℕ) (days slots periods : List ℕ) (store sums : List ℤ) (d : ℕ) (night : Night) (y : List ℤ) (x : Shown) (state value : ℕ) where
   refused : tablesShort days slots periods ≡ true
-      → (15, days, slots, periods, store, sums, state, value) ≡ enterDoor N taps C days slots periods store sums d night y state value
-  unfolding enterDoor
+      → (15, days, slots, periods, store, sums, state, value) ≡ fileDoor N taps C days slots periods store sums d night y x state value
+  unfolding fileDoor
   refused h = shut days slots periods _ _ h
 
   opened : tablesShort days slots periods ≡ false → {c : Campaign} {e : Entered} {s u : List ℤ} {r q v : ℕ} {days′ slots′ periods′ : List ℕ}
-      → c ≡ recordOf N taps C days slots periods → (e, s, u) ≡ enterOutcome c store sums d night y
+      → c ≡ recordOf N taps C days slots periods → (e, s, u) ≡ fileOutcome c store sums d night y (shownTo c night y x)
       → (days′ ≡ put (e .campaign .days) days) × (slots′ ≡ put (e .campaign .slots) slots) × (periods′ ≡ put (e .campaign .periods) periods)
       → (r, (q, v)) ≡ meant (state, value) (verdictMeans (e .entry .verdict))
-      → (r, days′, slots′, periods′, s, u, q, v) ≡ enterDoor N taps C days slots periods store sums d night y state value
-  unfolding enterDoor
+      → (r, days′, slots′, periods′, s, u, q, v) ≡ fileDoor N taps C days slots periods store sums d night y x state value
+  unfolding fileDoor
   opened h {e = e} {s = s} {u = u} k o (f, g, i) a =
-      through days slots periods _ (enteredOut days slots periods state value) {o = (e, s, u)} h (rw (f, g, i) (ap (λ t. (t .0, put (e .campaign .days) days, put (e .campaign .slots) slots, put (e .campaign .periods) periods, s, u, t .1 .0, t .1 .1)) a)) (o ∙ ap (λ c. enterOutcome c store sums d night y) k)
+      through days slots periods _ (enteredOut days slots periods state value) {o = (e, s, u)} h (rw (f, g, i) (ap (λ t. (t .0, put (e .campaign .days) days, put (e .campaign .slots) slots, put (e .campaign .periods) periods, s, u, t .1 .0, t .1 .1)) a)) (o ∙ ap (λ c. fileOutcome c store sums d night y (shownTo c night y x)) k)
 
 tables-short-requires : tie.Need-tables-short-requires
 tables-short-requires c κs = search needs
@@ -37,7 +38,7 @@ tables-short-requires c κs = search needs
 returns : tie.Need-returns
 returns c =
     let a = c .before .before .before .before .before .args in
-    refused (a .order) (a .taps) (a .capacity) (a .days .now) (a .slots .now) (a .periods .now) (a .store .now) (a .sums .now) (a .day) (a .night) (a .y .now) (a .state .now) (a .value .now)
+    refused (a .order) (a .taps) (a .capacity) (a .days .now) (a .slots .now) (a .periods .now) (a .store .now) (a .sums .now) (a .day) (a .night) (a .y .now) (a .shown) (a .state .now) (a .value .now)
     (sym (c .before .tables-short .ensures) ∙ c .if1 .taken)
 
 -- past the check
@@ -47,8 +48,8 @@ wide c = sym (c .before .tables-short .ensures) ∙ c .if1 .left
 read-record-requires : tie.Need-read-record-requires
 read-record-requires c κs = long (c .before .before .before .before .before .before .before .before .args .days .now) (c .before .before .before .before .before .before .before .before .args .slots .now) (c .before .before .before .before .before .before .before .before .args .periods .now) (wide (c .before .before .before))
 
-enter-requires : tie.Need-enter-requires
-enter-requires c κs = search needs
+file-shown-requires : tie.Need-file-shown-requires
+file-shown-requires c κs = search needs
 
 write-record-requires : tie.Need-write-record-requires
 write-record-requires c κs = long (c .before .before .before .before .before .before .before .before .before .before .before .before .before .before .before .before .before .before .args .days .now) (c .before .before .before .before .before .before .before .before .before .before .before .before .before .before .before .before .before .before .args .slots .now) (c .before .before .before .before .before .before .before .before .before .before .before .before .before .before .before .before .before .before .args .periods .now) (wide (c .before .before .before .before .before .before .before .before .before .before .before .before .before))
@@ -78,17 +79,17 @@ returns-2 c =
     let k = e .before .before .before in
     let i = k .before .before .before .before in
     let a = i .before .before .before .before .before .args in
-    opened (a .order) (a .taps) (a .capacity) (a .days .now) (a .slots .now) (a .periods .now) (a .store .now) (a .sums .now) (a .day) (a .night) (a .y .now) (a .state .now) (a .value .now)
-    (wide i) (k .read-record .ensures) (e .enter .ensures) (w .write-record .ensures) (c .write-verdict .ensures)
+    opened (a .order) (a .taps) (a .capacity) (a .days .now) (a .slots .now) (a .periods .now) (a .store .now) (a .sums .now) (a .day) (a .night) (a .y .now) (a .shown) (a .state .now) (a .value .now)
+    (wide i) (k .read-record .ensures) (e .file-shown .ensures) (w .write-record .ensures) (c .write-verdict .ensures)
 
-pub enter-night-spec : {M : Type 1} → statement M
-enter-night-spec =
+pub file-night-spec : {M : Type 1} → statement M
+file-night-spec =
     tie.close
     (tie.spec
     tables-short-requires
     returns
     read-record-requires
-    enter-requires
+    file-shown-requires
     write-record-requires
     write-verdict-requires
     same-length

@@ -1,4 +1,4 @@
--- `campaign::entering::settle` meets its contract, by the case of the finding. Assumes nothing.
+-- `campaign::settling::settle` meets its contract, by the case of the finding. Assumes nothing.
 use mathlib.Core.Path.{_≡_, sym, ap, _∙_}
 use mathlib.Core.List.{List}
 use Prim.Native.Nat.{ℕ}
@@ -12,8 +12,8 @@ use Rattle.campaign.specs.Calls.{termOf, entered, foundOutcome}
 use Rattle.campaign.specs.declared.Entered.{Entered}
 use Rattle.campaign.specs.declared.Verdict.the-variants as verdict
 use Rattle.campaign.proofs.Passing.{enters}
-use Rattle.campaign.proofs.entering.settle.Statement.{statement}
-use Rattle.campaign.proofs.entering.settle.Tie as tie
+use Rattle.campaign.proofs.settling.settle.Statement.{statement}
+use Rattle.campaign.proofs.settling.settle.Tie as tie
 
 -- the outcome of a finding that is known to be this
 module _ (c : Campaign) (store sums : List ℤ) (d m : ℕ) (z : List ℤ) where

@@ -1,4 +1,4 @@
--- `campaign::entering::keep` meets its contract. Assumes nothing.
+-- `campaign::settling::keep` meets its contract. Assumes nothing.
 use mathlib.Core.Path.{_≡_, refl, sym, ap, _∙_}
 use mathlib.Core.List.{List, [], _∷_}
 use Prim.Native.Nat.{ℕ, _-_, _*_, _≤_, _<_}
@@ -18,9 +18,10 @@ use Rattle.records.specs.declared.Campaign.{Campaign}
 use Rattle.campaign.specs.declared.Entered.{Entered}
 use Rattle.campaign.specs.declared.Verdict.the-variants as verdict
 use Rattle.records.proofs.Loops.{days-in-is}
-use Rattle.campaign.proofs.Passing.{Enters, enters, period-small, slot-fits, sums-small, lowest-free, run-in-fits, judged-long, judged-small}
-use Rattle.campaign.proofs.entering.keep.Statement.{statement}
-use Rattle.campaign.proofs.entering.keep.Tie as tie
+use Rattle.judging.proofs.Heard.{run-in-fits, judged-long, judged-small}
+use Rattle.campaign.proofs.Passing.{Enters, enters, period-small, slot-fits, sums-small, lowest-free}
+use Rattle.campaign.proofs.settling.keep.Statement.{statement}
+use Rattle.campaign.proofs.settling.keep.Tie as tie
 
 module _ (c : Campaign) (store sums : List ℤ) (d m : ℕ) (z : List ℤ) where
   full : daysIn c standing ≡ c .capacity → {r : Entered} → r ≡ entered c d (verdict.Refused 12) → (r, store, sums) ≡ stayedOutcome c store sums d m z
@@ -90,10 +91,10 @@ run-in-is : (c : tie.After-run-in) → let a = c .before .before .before .before
 run-in-is c = c .run-in .ensures ∙ ap (λ n. lead (c .before .before .before .before .before .before .before .before .before .before .args .night) * n) (c .before .full-period .ensures)
 
 inside : (c : tie.After-periods-of) → c .before .run-in .result ≤ length (c .before .before .before .before .before .before .before .before .before .before .before .args .y .now)
-inside c = rw (run-in-is (c .before)) (run-in-fits (ready (c .before .before .before .before .before .before .before .before .before .before .before)))
+inside c = rw (run-in-is (c .before)) (run-in-fits (ready (c .before .before .before .before .before .before .before .before .before .before .before) .heard))
 
 cast-m : tie.Need-cast-m
-cast-m c = record { fits = omega (arith, c .periods-of .ensures, ready (c .before .before .before .before .before .before .before .before .before .before .before) .most) }
+cast-m c = record { fits = omega (arith, c .periods-of .ensures, ready (c .before .before .before .before .before .before .before .before .before .before .before) .heard .most) }
 
 mul-fill-slot : tie.Need-mul-fill-slot
 mul-fill-slot c = omega (arith, inside c, c .before .before .before .before .before .before .before .before .before .before .before .good)
@@ -121,7 +122,7 @@ fill-slot-requires c κs =
     let k = slot-inside (c .before .before .before .before .before .before) in
     rw (c .before .before .before .before .before .full-period .ensures, g .periods-of .ensures, judged-is g) (
       (omega (arith, k, r .whole .filed .most), period-small (r .whole), slot-fits (r .whole) _ k),
-      ((r .least, r .most, judged-long r, judged-small r), (r .whole .sums-long, sums-small (r .whole))),
+      ((r .heard .least, r .heard .most, judged-long (r .heard), judged-small (r .heard)), (r .whole .sums-long, sums-small (r .whole))),
     )
 
 cast-file : tie.Need-cast-file

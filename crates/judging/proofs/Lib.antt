@@ -1,0 +1,4 @@
+-- The laws of judging.
+pub mod Heard
+pub mod Judgements
+pub mod Order
