@@ -1,6 +1,6 @@
 /* Calls every function of meter.h on document 01's numbers, asks for its refusals in words, holds a night that is judged and filed to the same night
- * entered, byte by byte, and the period of each function that tells one to what meter.h says, at every refusal that the function has. Prints nothing but
- * what is wrong, and a last line. */
+ * entered, byte by byte, a campaign in one edition of the report rules to the same in the other, and the period of each function that tells one to what
+ * meter.h says, at every refusal that the function has. Prints nothing but what is wrong, and a last line. */
 #include "meter.h"
 #include <stdio.h>
 #include <string.h>
@@ -31,7 +31,8 @@ static uint16_t tags[P + 1];
 static uint32_t period;
 
 #define LENT_OF(n_days, n_slots, n_periods) days, n_days, slots, n_slots, periods, n_periods, store, SLOT_COUNT * P + 1, sums, P + 1
-#define RECORD ORDER, TAPS, SLOT_COUNT, LENT_OF(METER_DAYS + 1, METER_SLOTS + 1, METER_SLOTS + 1)
+#define RECORD_IN(edition) ORDER, TAPS, SLOT_COUNT, edition, LENT_OF(METER_DAYS + 1, METER_SLOTS + 1, METER_SLOTS + 1)
+#define RECORD RECORD_IN(METER_HALVES_AWAY)
 #define ROOM room, P + 2, tags, P + 1
 
 static int says(uint32_t answer, const char *words) {
@@ -41,13 +42,14 @@ static int says(uint32_t answer, const char *words) {
 static uint32_t judged(uint32_t order, uint32_t taps) { return meter_taps(order, taps, &period); }
 
 static void words(void) {
-    EXPECT(says(METER_ACCEPTED, "accepted") && says(19, "unknown") && says(22, "unknown") && says(24, "unknown") && says(4294967295u, "unknown"));
+    EXPECT(says(METER_ACCEPTED, "accepted") && says(19, "unknown") && says(22, "unknown") && says(25, "unknown") && says(4294967295u, "unknown"));
     EXPECT(says(judged(17, 3), "order below 2 or above 16") && says(judged(2, 4), "taps not below 2^N"));
     EXPECT(says(judged(2, 2), "tap 0 clear") && says(judged(2, 1), "register not maximal"));
     EXPECT(says(METER_WRONG_LENGTH, "recording or response not exactly P long, capture not exactly (m+1)*P") && METER_WRONG_LENGTH == 5);
     EXPECT(says(METER_BEYOND_THE_PROGRAM, "the program only: order above 9, slots above 8, or 5 to 16 periods") && METER_BEYOND_THE_PROGRAM == 17);
     EXPECT(says(METER_PERIODS_OUT_OF_RANGE, "periods not 1 to 16") && METER_PERIODS_OUT_OF_RANGE == 18);
     EXPECT(says(METER_VERDICT_DIFFERS, "verdict handed in is not what judging gives") && METER_VERDICT_DIFFERS == 23);
+    EXPECT(says(METER_EDITION_UNKNOWN, "edition not 1 or 2") && METER_EDITION_UNKNOWN == 24);
     for (uint32_t n = 0; n < 18; n++)
         EXPECT(!says(n, "unknown") && !says(n, meter_explain(n + 1)));
 }
@@ -109,11 +111,11 @@ static void campaigns(void) {
     slots[METER_SLOTS] = 9;
     periods[METER_SLOTS] = 9;
     store[0] = 9;
-    EXPECT(meter_start(ORDER, TAPS, SLOT_COUNT, LENT_OF(METER_DAYS - 1, METER_SLOTS, METER_SLOTS), &period) == 6 && store[0] == 9);
-    EXPECT(meter_start(ORDER, TAPS, SLOT_COUNT, LENT_OF(METER_DAYS, METER_SLOTS - 1, METER_SLOTS), &period) == 6 && store[0] == 9);
-    EXPECT(meter_start(ORDER, TAPS, SLOT_COUNT, LENT_OF(METER_DAYS, METER_SLOTS, METER_SLOTS - 1), &period) == 6 && store[0] == 9);
-    EXPECT(meter_start(ORDER, TAPS, 65, LENT_OF(METER_DAYS - 1, METER_SLOTS, METER_SLOTS), &period) == 9 && store[0] == 9);
-    EXPECT(meter_start(ORDER, TAPS, 65, LENT_OF(METER_DAYS, METER_SLOTS, METER_SLOTS), &period) == 9 && store[0] == 9);
+    EXPECT(meter_start(ORDER, TAPS, SLOT_COUNT, METER_HALVES_AWAY, LENT_OF(METER_DAYS - 1, METER_SLOTS, METER_SLOTS), &period) == 6 && store[0] == 9);
+    EXPECT(meter_start(ORDER, TAPS, SLOT_COUNT, METER_HALVES_AWAY, LENT_OF(METER_DAYS, METER_SLOTS - 1, METER_SLOTS), &period) == 6 && store[0] == 9);
+    EXPECT(meter_start(ORDER, TAPS, SLOT_COUNT, METER_HALVES_AWAY, LENT_OF(METER_DAYS, METER_SLOTS, METER_SLOTS - 1), &period) == 6 && store[0] == 9);
+    EXPECT(meter_start(ORDER, TAPS, 65, METER_HALVES_AWAY, LENT_OF(METER_DAYS - 1, METER_SLOTS, METER_SLOTS), &period) == 9 && store[0] == 9);
+    EXPECT(meter_start(ORDER, TAPS, 65, METER_HALVES_AWAY, LENT_OF(METER_DAYS, METER_SLOTS, METER_SLOTS), &period) == 9 && store[0] == 9);
     EXPECT(meter_start(RECORD, &period) == 0 && store[0] == 0);
     EXPECT(meter_response(RECORD, r, P + 1, mean, P + 1, ROOM) == 14);
     EXPECT(meter_summary(RECORD, ROOM, &stands, &highest, &lowest, &peak) == 0 && stands == 0 && highest == 9);
@@ -318,6 +320,98 @@ static void filings(void) {
     refused_filings();
 }
 
+/* ---- the editions of the report rules ---- */
+
+/* A night whose r, over 8, is at an exact half at every place but one, and its means in each edition. */
+static const int32_t at_halves[P] = {-6, 9, 0, 5, -1, -1, -8};
+static const int64_t r_at_halves[P] = {-4, -12, 4, -24, 20, 20, 12};
+static const int32_t away[P] = {-1, -2, 1, -3, 3, 3, 2}, to_even[P] = {0, -2, 0, -3, 2, 2, 2};
+static const uint32_t no_editions[] = {0, 3, 257, 258, 65537, 2147483650u, 4294967295u};
+enum { NO_EDITIONS = sizeof no_editions / sizeof *no_editions };
+
+/* The answers of the three calls that ask, and all that they write; each byte is LEFT before. */
+struct report {
+    uint32_t answers[3], counts[5], stands;
+    int64_t r[P], room[2][P + 1];
+    int32_t mean[P];
+    uint16_t tags[2][P];
+    double levels[3];
+};
+
+static void ask(struct report *t, uint32_t edition) {
+    memset(t, LEFT, sizeof *t);
+    t->answers[0] = meter_counts(RECORD_IN(edition), &t->counts[0], &t->counts[1], &t->counts[2], &t->counts[3], &t->counts[4]);
+    t->answers[1] = meter_response(RECORD_IN(edition), t->r, P, t->mean, P, t->room[0], P + 1, t->tags[0], P);
+    t->answers[2] = meter_summary(RECORD_IN(edition), t->room[1], P + 1, t->tags[1], P, &t->stands, &t->levels[0], &t->levels[1], &t->levels[2]);
+}
+
+static int told(const struct report *t, const int64_t *r_wanted, const int32_t *mean_wanted) {
+    return memcmp(t->answers, (uint32_t[]){0, 0, 0}, sizeof t->answers) == 0 && memcmp(t->r, r_wanted, sizeof t->r) == 0 &&
+           memcmp(t->mean, mean_wanted, sizeof t->mean) == 0;
+}
+
+/* Whether the campaign tells these in each edition, and in all else the same. */
+static int told_in_both(const int64_t *r_wanted, const int32_t *mean_away, const int32_t *mean_to_even) {
+    struct report one, two;
+    ask(&one, METER_HALVES_AWAY);
+    ask(&two, METER_HALVES_TO_EVEN);
+    int means = told(&one, r_wanted, mean_away) && told(&two, r_wanted, mean_to_even);
+    memcpy(one.mean, two.mean, sizeof one.mean);
+    return means && memcmp(&one, &two, sizeof one) == 0;
+}
+
+/* Whether every call but a start refuses the campaign with 15 in this edition, which is none, and writes nothing. */
+static int refused_in(uint32_t edition) {
+    struct memory was = memory_now();
+    struct night night = night_of(heard);
+    struct report asked, blank;
+    memset(&blank, LEFT, sizeof blank);
+    for (size_t i = 0; i < 3; i++)
+        blank.answers[i] = METER_RECORD_BROKEN;
+    ask(&asked, edition);
+    forget();
+    return memcmp(&asked, &blank, sizeof asked) == 0 && meter_enter(RECORD_IN(edition), 2, night.y, P, &state, &value) == 15 &&
+           meter_capture(RECORD_IN(edition), 2, 1, night.captured, 2 * P, &state, &value) == 15 &&
+           meter_file(RECORD_IN(edition), 2, night.y, P, METER_STANDING, 0, &state, &value) == 15 &&
+           meter_file_capture(RECORD_IN(edition), 2, 1, night.captured, 2 * P, METER_STANDING, 0, &state, &value) == 15 &&
+           meter_withdraw(RECORD_IN(edition), 1) == 15 && told_nothing() && memory_is(&was);
+}
+
+/* The same days entered, withdrawn and entered again in one edition; what it leaves is the same in both. */
+static void run_in(uint32_t edition, struct memory *left) {
+    struct night night = night_of(at_halves);
+    EXPECT(meter_start(RECORD_IN(edition), &period) == 0);
+    EXPECT(meter_enter(RECORD_IN(edition), 1, night.y, P, &state, &value) == 0 && state == METER_STANDING && value == 0);
+    EXPECT(told_in_both(r_at_halves, away, to_even));
+    EXPECT(meter_capture(RECORD_IN(edition), 2, 1, night.captured, 2 * P, &state, &value) == 0 && value == 1);
+    EXPECT(meter_withdraw(RECORD_IN(edition), 1) == 0 && days[0] == METER_WITHDRAWN);
+    EXPECT(told_in_both(r_at_halves, away, to_even));
+    EXPECT(meter_withdraw(RECORD_IN(edition), 2) == 0);
+    EXPECT(meter_file(RECORD_IN(edition), 3, night.y, P, METER_STANDING, 0, &state, &value) == 0 && value == 0);
+    EXPECT(meter_withdraw(RECORD_IN(edition), 3) == 0);
+    EXPECT(meter_file_capture(RECORD_IN(edition), 4, 1, night.captured, 2 * P, METER_STANDING, 0, &state, &value) == 0 && value == 0);
+    EXPECT(told_in_both(r_at_halves, away, to_even));
+    EXPECT(meter_enter(RECORD_IN(edition), 1, night.y, P, &state, &value) == 0 && days[0] == METER_STANDING && value == 1);
+    *left = memory_now();
+}
+
+static void editions(void) {
+    struct memory one, two;
+    EXPECT(METER_HALVES_AWAY == 1 && METER_HALVES_TO_EVEN == 2);
+    run_in(METER_HALVES_AWAY, &one);
+    run_in(METER_HALVES_TO_EVEN, &two);
+    EXPECT(memcmp(&one, &two, sizeof one) == 0);
+    /* No mean at a half: both editions tell the same. */
+    EXPECT(meter_start(RECORD_IN(METER_HALVES_TO_EVEN), &period) == 0 && meter_enter(RECORD_IN(METER_HALVES_TO_EVEN), 1, heard, P, &state, &value) == 0);
+    EXPECT(told_in_both((int64_t[P]){64, 0, -32}, (int32_t[P]){8, 0, -4}, (int32_t[P]){8, 0, -4}));
+    for (size_t i = 0; i < NO_EDITIONS; i++) {
+        struct memory was = memory_now();
+        EXPECT(refused_in(no_editions[i]));
+        period = UNTOLD;
+        EXPECT(meter_start(RECORD_IN(no_editions[i]), &period) == METER_EDITION_UNKNOWN && period == UNTOLD && memory_is(&was));
+    }
+}
+
 /* ---- the period ---- */
 
 enum { MOST_ORDER = 16, MOST_P = 65535 };
@@ -335,10 +429,10 @@ static struct lent {
     size_t value;
 } lent, before;
 
-/* A register, the slots and the periods of a capture beyond the first, by how much each length is short, and the first two values of a recording, a
- * response or a capture of zeros. */
+/* A register, the slots, the periods of a capture and the edition beyond the first, by how much each length is short, and the first two values of a
+ * recording, a response or a capture of zeros. */
 struct given {
-    uint32_t order, taps, more_slots, more_periods;
+    uint32_t order, taps, more_slots, more_periods, more_editions;
     size_t in, out, room, tags, days, slots, periods, store, sums;
     int32_t values[2];
 };
@@ -359,8 +453,9 @@ static uint32_t answer_of(unsigned function, const struct given *g, uint32_t *to
     case OF_JUDGE_CAPTURE:
         return meter_judge_capture(g->order, g->taps, 1 + g->more_periods, in, 2 * p - g->in, &lent.state, &lent.value, told);
     default:
-        return meter_start(g->order, g->taps, 1 + g->more_slots, lent.days, METER_DAYS - g->days, lent.slots, METER_SLOTS - g->slots,
-                           lent.periods, METER_SLOTS - g->periods, lent.store, p - g->store, lent.sums, p - g->sums, told);
+        return meter_start(g->order, g->taps, 1 + g->more_slots, 1 + g->more_editions, lent.days, METER_DAYS - g->days,
+                           lent.slots, METER_SLOTS - g->slots, lent.periods, METER_SLOTS - g->periods,
+                           lent.store, p - g->store, lent.sums, p - g->sums, told);
     }
 }
 
@@ -377,7 +472,7 @@ static const struct { unsigned functions; struct given given; uint32_t answer, p
     {ALL, {.order = 16, .taps = 65535}, 4, 17},
     {ALL, {.order = 16, .taps = 99}, 4, 64897},
     /* Whatever else is wrong, 4 comes first and has its period. */
-    {ALL, {4, 15, 64, 16, .in = 1, .out = 1, .room = 1, .tags = 1, .days = 1, .slots = 1, .periods = 1, .store = 1, .sums = 1, .values = {8388608, 0}}, 4, 5},
+    {ALL, {4, 15, 64, 16, 2, .in = 1, .out = 1, .room = 1, .tags = 1, .days = 1, .slots = 1, .periods = 1, .store = 1, .sums = 1, .values = {8388608, 0}}, 4, 5},
     {ALL, {.order = 1, .taps = 3}, 1, UNTOLD},
     {ALL, {.order = 17, .taps = 3}, 1, UNTOLD},
     {ALL, {.order = 4, .taps = 16}, 2, UNTOLD},
@@ -398,6 +493,19 @@ static const struct { unsigned functions; struct given given; uint32_t answer, p
     {OF_START, {3, 3, .more_slots = 64, .periods = 1}, 9, UNTOLD},
     {OF_START, {3, 3, .store = 1}, 6, UNTOLD},
     {OF_START, {3, 3, .sums = 1}, 6, UNTOLD},
+    /* The second edition is the last; UINT32_MAX beyond the first is edition 0. */
+    {OF_START, {3, 3, .more_editions = 1}, 0, 7},
+    {OF_START, {3, 3, .more_editions = 2}, 24, UNTOLD},
+    {OF_START, {3, 3, .more_editions = UINT32_MAX}, 24, UNTOLD},
+    {OF_START, {3, 3, .more_editions = UINT32_MAX - 1}, 24, UNTOLD},
+    {OF_START, {3, 3, .more_slots = 64, .more_editions = 2}, 9, UNTOLD},
+    {OF_START, {3, 3, .more_slots = UINT32_MAX, .more_editions = UINT32_MAX}, 9, UNTOLD},
+    {OF_START, {3, 3, .more_editions = 2, .days = 1}, 24, UNTOLD},
+    {OF_START, {3, 3, .more_editions = 2, .slots = 1}, 24, UNTOLD},
+    {OF_START, {3, 3, .more_editions = 2, .periods = 1}, 24, UNTOLD},
+    {OF_START, {3, 3, .more_editions = 2, .store = 1}, 24, UNTOLD},
+    {OF_START, {3, 3, .more_editions = 2, .sums = 1}, 24, UNTOLD},
+    {OF_START, {3, 3, .more_editions = 1, .sums = 1}, 6, UNTOLD},
 };
 enum { TOLD = sizeof told_by / sizeof *told_by };
 
@@ -428,6 +536,7 @@ int main(void) {
     captures();
     judgements();
     filings();
+    editions();
     periods_told();
     printf("calls from C: %d expected, %d wrong\n", made, wrong);
     return wrong != 0;

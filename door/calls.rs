@@ -1,5 +1,5 @@
 // Calls every function of the C door from Rust on document 01's numbers: the declarations, a safe function over each, and what it must answer, the
-// period included.
+// period included and in both editions of the report rules.
 use std::process::ExitCode;
 
 mod declared {
@@ -19,29 +19,29 @@ mod declared {
         pub fn meter_judge(order: u32, taps: u32, y: *const i32, y_len: usize, state: &mut u32, value: &mut usize, period: &mut u32) -> u32;
         pub fn meter_judge_capture(order: u32, taps: u32, m: u32, y: *const i32, y_len: usize,
             state: &mut u32, value: &mut usize, period: &mut u32) -> u32;
-        pub fn meter_start(order: u32, taps: u32, capacity: u32, days: *mut u8, days_len: usize, slots: *mut u16, slots_len: usize,
+        pub fn meter_start(order: u32, taps: u32, capacity: u32, edition: u32, days: *mut u8, days_len: usize, slots: *mut u16, slots_len: usize,
             periods: *mut u8, periods_len: usize, store: *mut i32, store_len: usize, sums: *mut i64, sums_len: usize, period: &mut u32) -> u32;
-        pub fn meter_enter(order: u32, taps: u32, capacity: u32, days: *mut u8, days_len: usize, slots: *mut u16, slots_len: usize,
+        pub fn meter_enter(order: u32, taps: u32, capacity: u32, edition: u32, days: *mut u8, days_len: usize, slots: *mut u16, slots_len: usize,
             periods: *mut u8, periods_len: usize, store: *mut i32, store_len: usize, sums: *mut i64, sums_len: usize,
             day: u32, y: *const i32, y_len: usize, state: &mut u32, value: &mut usize) -> u32;
-        pub fn meter_capture(order: u32, taps: u32, capacity: u32, days: *mut u8, days_len: usize, slots: *mut u16, slots_len: usize,
+        pub fn meter_capture(order: u32, taps: u32, capacity: u32, edition: u32, days: *mut u8, days_len: usize, slots: *mut u16, slots_len: usize,
             periods: *mut u8, periods_len: usize, store: *mut i32, store_len: usize, sums: *mut i64, sums_len: usize,
             day: u32, m: u32, y: *const i32, y_len: usize, state: &mut u32, value: &mut usize) -> u32;
-        pub fn meter_file(order: u32, taps: u32, capacity: u32, days: *mut u8, days_len: usize, slots: *mut u16, slots_len: usize,
+        pub fn meter_file(order: u32, taps: u32, capacity: u32, edition: u32, days: *mut u8, days_len: usize, slots: *mut u16, slots_len: usize,
             periods: *mut u8, periods_len: usize, store: *mut i32, store_len: usize, sums: *mut i64, sums_len: usize,
             day: u32, y: *const i32, y_len: usize, shown: u32, place: usize, state: &mut u32, value: &mut usize) -> u32;
-        pub fn meter_file_capture(order: u32, taps: u32, capacity: u32, days: *mut u8, days_len: usize, slots: *mut u16, slots_len: usize,
+        pub fn meter_file_capture(order: u32, taps: u32, capacity: u32, edition: u32, days: *mut u8, days_len: usize, slots: *mut u16, slots_len: usize,
             periods: *mut u8, periods_len: usize, store: *mut i32, store_len: usize, sums: *mut i64, sums_len: usize,
             day: u32, m: u32, y: *const i32, y_len: usize, shown: u32, place: usize, state: &mut u32, value: &mut usize) -> u32;
-        pub fn meter_withdraw(order: u32, taps: u32, capacity: u32, days: *mut u8, days_len: usize, slots: *mut u16, slots_len: usize,
+        pub fn meter_withdraw(order: u32, taps: u32, capacity: u32, edition: u32, days: *mut u8, days_len: usize, slots: *mut u16, slots_len: usize,
             periods: *mut u8, periods_len: usize, store: *mut i32, store_len: usize, sums: *mut i64, sums_len: usize, day: u32) -> u32;
-        pub fn meter_counts(order: u32, taps: u32, capacity: u32, days: *const u8, days_len: usize, slots: *const u16, slots_len: usize,
+        pub fn meter_counts(order: u32, taps: u32, capacity: u32, edition: u32, days: *const u8, days_len: usize, slots: *const u16, slots_len: usize,
             periods: *const u8, periods_len: usize, store: *const i32, store_len: usize, sums: *const i64, sums_len: usize,
             unseen: &mut u32, standing: &mut u32, overloaded: &mut u32, dead: &mut u32, withdrawn: &mut u32) -> u32;
-        pub fn meter_response(order: u32, taps: u32, capacity: u32, days: *const u8, days_len: usize, slots: *const u16, slots_len: usize,
+        pub fn meter_response(order: u32, taps: u32, capacity: u32, edition: u32, days: *const u8, days_len: usize, slots: *const u16, slots_len: usize,
             periods: *const u8, periods_len: usize, store: *const i32, store_len: usize, sums: *const i64, sums_len: usize,
             r: *mut i64, r_len: usize, mean: *mut i32, mean_len: usize, room: *mut i64, room_len: usize, tags: *mut u16, tags_len: usize) -> u32;
-        pub fn meter_summary(order: u32, taps: u32, capacity: u32, days: *const u8, days_len: usize, slots: *const u16, slots_len: usize,
+        pub fn meter_summary(order: u32, taps: u32, capacity: u32, edition: u32, days: *const u8, days_len: usize, slots: *const u16, slots_len: usize,
             periods: *const u8, periods_len: usize, store: *const i32, store_len: usize, sums: *const i64, sums_len: usize,
             room: *mut i64, room_len: usize, tags: *mut u16, tags_len: usize, stands: &mut u32, highest: &mut f64, lowest: &mut f64, peak: &mut f64) -> u32;
     }
@@ -167,11 +167,16 @@ fn judge_capture(order: u32, taps: u32, m: u32, y: &[i32]) -> (Said, u32) {
     (found, period)
 }
 
+// The editions of the report rules, as meter.h numbers them.
+const HALVES_AWAY: u32 = 1;
+const HALVES_TO_EVEN: u32 = 2;
+
 #[derive(Clone, PartialEq)]
 struct Campaign {
     order: u32,
     taps: u32,
     capacity: u32,
+    edition: u32,
     days: Vec<u8>,
     slots: Vec<u16>,
     periods: Vec<u8>,
@@ -183,7 +188,7 @@ macro_rules! lent {
     ($call:ident, $c:expr, $ptr:ident $(, $more:expr)*) => {
         unsafe {
             declared::$call(
-                $c.order, $c.taps, $c.capacity, $c.days.$ptr(), $c.days.len(), $c.slots.$ptr(), $c.slots.len(),
+                $c.order, $c.taps, $c.capacity, $c.edition, $c.days.$ptr(), $c.days.len(), $c.slots.$ptr(), $c.slots.len(),
                 $c.periods.$ptr(), $c.periods.len(), $c.store.$ptr(), $c.store.len(), $c.sums.$ptr(), $c.sums.len() $(, $more)*
             )
         }
@@ -191,19 +196,29 @@ macro_rules! lent {
 }
 
 impl Campaign {
-    fn start(order: u32, taps: u32, capacity: u32, days: usize, periods: usize) -> (Told, Campaign) {
+    // Memory as it is before a start, in edition 1.
+    fn lent(order: u32, taps: u32, capacity: u32, days: usize, periods: usize) -> Campaign {
         let p = length(order);
-        let mut c = Campaign {
+        Campaign {
             order,
             taps,
             capacity,
+            edition: HALVES_AWAY,
             days: vec![9; days],
             slots: vec![9; 64],
             periods: vec![9; periods],
             store: vec![9; capacity as usize * p],
             sums: vec![9; p],
-        };
-        (told(|period| lent!(meter_start, c, as_mut_ptr, period)), c)
+        }
+    }
+
+    fn begin(&mut self) -> Told {
+        told(|period| lent!(meter_start, self, as_mut_ptr, period))
+    }
+
+    fn start(order: u32, taps: u32, capacity: u32, days: usize, periods: usize) -> (Told, Campaign) {
+        let mut c = Campaign::lent(order, taps, capacity, days, periods);
+        (c.begin(), c)
     }
 
     fn enter(&mut self, day: u32, y: &[i32]) -> Result<(u32, usize), u32> {
@@ -445,6 +460,81 @@ fn filings(facts: &mut Facts) {
     expect!(facts, c.file(0, &NIGHT, dead) == (15, UNSAID) && c.file_capture(0, 17, &NIGHT, dead) == (15, UNSAID));
 }
 
+// A night whose r, over 8, is at an exact half at every place but one; r, and the mean in each edition.
+const AT_HALVES: [i32; 7] = [-6, 9, 0, 5, -1, -1, -8];
+const R_AT_HALVES: [i64; 7] = [-4, -12, 4, -24, 20, 20, 12];
+const AWAY: [i32; 7] = [-1, -2, 1, -3, 3, 3, 2];
+const TO_EVEN: [i32; 7] = [0, -2, 0, -3, 2, 2, 2];
+const NO_EDITIONS: [u32; 7] = [0, 3, 257, 258, 65537, 2147483650, 4294967295];
+
+// What a campaign tells when it is asked, and the room that it worked in.
+#[derive(PartialEq)]
+struct Report {
+    answer: u32,
+    r: [i64; 7],
+    mean: [i32; 7],
+    room: (Vec<i64>, Vec<u16>),
+    counts: Result<[u32; 5], u32>,
+    levels: Result<Option<[f64; 3]>, u32>,
+}
+
+fn report(c: &Campaign, edition: u32) -> Report {
+    let asked = Campaign { edition, ..c.clone() };
+    let (mut r, mut mean, mut room) = ([9; 7], [9; 7], Room::new(7));
+    let answer = asked.response(&mut r, &mut mean, &mut room);
+    Report { answer, r, mean, room: (room.wide, room.tags), counts: asked.counts(), levels: asked.summary(&mut Room::new(7)) }
+}
+
+// Whether the campaign tells this r with these means, and in all else the same in both editions.
+fn told_in_both(c: &Campaign, r: [i64; 7], away: [i32; 7], to_even: [i32; 7]) -> bool {
+    let (one, two) = (report(c, HALVES_AWAY), report(c, HALVES_TO_EVEN));
+    one.answer == 0 && one.r == r && one.mean == away && two.mean == to_even && Report { mean: to_even, ..one } == two
+}
+
+// The same days entered, withdrawn and entered again.
+fn run_in(facts: &mut Facts, edition: u32) -> Campaign {
+    let captured = [vec![8388607; 7], AT_HALVES.to_vec()].concat();
+    let mut c = Campaign { edition, ..Campaign::lent(3, 3, 2, 366, 64) };
+    expect!(facts, c.begin() == (0, 7));
+    expect!(facts, c.enter(1, &AT_HALVES) == Ok((STANDING, 0)) && told_in_both(&c, R_AT_HALVES, AWAY, TO_EVEN));
+    expect!(facts, c.capture(2, 1, &captured) == Ok((STANDING, 1)) && c.withdraw(1) == 0 && told_in_both(&c, R_AT_HALVES, AWAY, TO_EVEN));
+    expect!(facts, c.withdraw(2) == 0 && c.file(3, &AT_HALVES, (STANDING, 0)) == (0, (STANDING, 0)));
+    expect!(facts, c.withdraw(3) == 0 && c.file_capture(4, 1, &captured, (STANDING, 0)) == (0, (STANDING, 0)));
+    expect!(facts, told_in_both(&c, R_AT_HALVES, AWAY, TO_EVEN));
+    expect!(facts, c.enter(1, &AT_HALVES) == Ok((STANDING, 1)));
+    c
+}
+
+// An edition that is none: 15 of every call but a start, which refuses it between 9 and 6.
+fn no_edition(facts: &mut Facts, c: &Campaign, edition: u32) {
+    let (captured, kept) = (nights(0, 1), (STANDING, 0));
+    let refused = Report { answer: 15, r: [9; 7], mean: [9; 7], room: (vec![5; 8], vec![5; 7]), counts: Err(15), levels: Err(15) };
+    expect!(facts, report(c, edition) == refused);
+    let begun = Campaign { edition, ..c.clone() };
+    let mut c = begun.clone();
+    expect!(facts, c.enter(9, &NIGHT) == Err(15) && c.capture(9, 1, &captured) == Err(15) && c.withdraw(1) == 15);
+    expect!(facts, c.file(9, &NIGHT, kept) == (15, UNSAID) && c.file_capture(9, 1, &captured, kept) == (15, UNSAID));
+    expect!(facts, c.begin() == (24, UNTOLD) && c == begun);
+    for capacity in [0, 65] {
+        expect!(facts, Campaign { edition, capacity, ..begun.clone() }.begin() == (9, UNTOLD));
+    }
+    for (days, periods) in [(365, 64), (366, 63)] {
+        expect!(facts, Campaign { edition, ..Campaign::lent(3, 3, 2, days, periods) }.begin() == (24, UNTOLD));
+    }
+    c.sums.pop();
+    expect!(facts, c.begin() == (24, UNTOLD));
+    c.store.pop();
+    expect!(facts, c.begin() == (24, UNTOLD));
+}
+
+fn editions(facts: &mut Facts) {
+    let (away, to_even) = (run_in(facts, HALVES_AWAY), run_in(facts, HALVES_TO_EVEN));
+    expect!(facts, away == Campaign { edition: HALVES_AWAY, ..to_even });
+    for edition in NO_EDITIONS {
+        no_edition(facts, &away, edition);
+    }
+}
+
 // What the eight calls that tell a period answer to a register, all else being as they want it.
 fn each_call(order: u32, t: u32) -> [Told; 8] {
     let p = length(order);
@@ -482,6 +572,7 @@ fn main() -> ExitCode {
     captures(&mut facts);
     judgements(&mut facts);
     filings(&mut facts);
+    editions(&mut facts);
     periods(&mut facts);
     let wrong: Vec<_> = facts.iter().filter(|(_, held)| !held).collect();
     for (fact, _) in &wrong {

@@ -16,7 +16,7 @@ enum { LOWEST = -8388608, HIGHEST = 8388607, DEAD_SPREAD = 7 };
 enum { PRINTED = 20 };
 
 /* A campaign, with a tail behind all that it lends. */
-static uint32_t order, taps;
+static uint32_t order, taps, edition;
 static size_t p;
 static struct memory {
     uint8_t days[METER_DAYS + TAIL], periods[METER_SLOTS + TAIL];
@@ -38,7 +38,7 @@ static uint32_t m;
 static const int32_t *y;
 static size_t n, judged;
 
-#define RECORD order, taps, SLOT_COUNT, now.days, METER_DAYS + TAIL, now.slots, METER_SLOTS + TAIL, now.periods, METER_SLOTS + TAIL, \
+#define RECORD order, taps, SLOT_COUNT, edition, now.days, METER_DAYS + TAIL, now.slots, METER_SLOTS + TAIL, now.periods, METER_SLOTS + TAIL, \
                now.store, SLOT_COUNT * p + TAIL, now.sums, p + TAIL
 
 static void expect(int held, const char *what) {
@@ -219,8 +219,10 @@ static void stand(uint32_t day) {
     must(file(day, right) == METER_ACCEPTED && told.state == METER_STANDING, "a day does not stand");
 }
 
+/* Each edition has every second order, since no filing depends on it. */
 static void at_order(uint32_t of_order) {
     order = of_order;
+    edition = order % 2 == 0 ? METER_HALVES_AWAY : METER_HALVES_TO_EVEN;
     p = ((size_t)1 << order) - 1;
     must(meter_default_taps(order, &taps) == METER_ACCEPTED, "an order has no taps");
     memset(&now, CANARY, sizeof now);

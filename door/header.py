@@ -46,14 +46,16 @@ for name in faults:
 print(f"meter.h: {len(source)} functions in the source, {len(faults)} declared otherwise")
 
 named = {name: int(number) for name, number in re.findall(r"(METER_\w+) = (\d+)", text)}
-in_words = {named.get(name, name): words for name, words in re.findall(r'case (\w+): return "(.*?)";', text)}
+explained = re.findall(r'case (\w+): return "(.*?)";', text)
+in_words = {named.get(name, name): words for name, words in explained}
 in_python = {number: explain(number) for number in [0, *CAUSES]}
 others = [n for n in in_words.keys() | in_python.keys() if in_words.get(n) != in_python.get(n)]
 for n in others:
     print(f"wrong: answer {n}\n  python {in_python.get(n)}\n  header {in_words.get(n)}")
 print(f"meter.h: {len(in_python)} answers in words, {len(others)} other than Python's")
 
-rows = [f"| {number} | `{name}` | {CAUSES[number]} |" for name, number in named.items() if number in CAUSES]
+# Editions are numbered too, and only the names that meter_explain has are refusals.
+rows = [f"| {named[name]} | `{name}` | {CAUSES[named[name]]} |" for name, _ in explained if named.get(name) in CAUSES]
 missing = [row for row in rows if row not in (root / "docs/MANUAL.md").read_text().splitlines()]
 print("\n".join(f"docs/MANUAL.md has no row {row}" for row in missing) or f"docs/MANUAL.md: the {len(rows)} refusals of meter.h")
 sys.exit(bool(faults or others or missing))

@@ -1,6 +1,6 @@
-/* Document 01's "Order of checks", with 18 and 23 of requests 1 and 5 of document 02: for each two checks that stand side by side in a call's list, an
- * input to which both apply, so that the answer tells which comes first. Default taps and counts have one check. `second order` makes the same calls of
- * its own functions and prints the same lines. */
+/* Document 01's "Order of checks", with 18, 23 and 24 of requests 1, 5 and 9 of document 02: for each two checks that stand side by side in a call's
+ * list, an input to which both apply, so that the answer tells which comes first. Default taps and counts have one check. `second order` makes the same
+ * calls of its own functions and prints the same lines. */
 #include "meter.h"
 #include <stdio.h>
 
@@ -13,12 +13,14 @@ enum { MOST_PERIODS = 16 };
 static uint8_t days[METER_DAYS];
 static uint16_t slots[METER_SLOTS];
 static uint8_t periods[METER_SLOTS];
-static int32_t store[METER_SLOTS * P];
+/* One slot more than a campaign may have, since a count of 65 is lent its store in full. */
+static int32_t store[(METER_SLOTS + 1) * P];
 static int64_t sums[P];
+static uint32_t edition = METER_HALVES_AWAY;
 /* How long the tables are lent. */
 static size_t days_len = METER_DAYS, slots_len = METER_SLOTS, periods_len = METER_SLOTS;
 #define TABLES days, days_len, slots, slots_len, periods, periods_len
-#define RECORD ORDER, TAPS, 1, TABLES, store, P, sums, P
+#define RECORD ORDER, TAPS, 1, edition, TABLES, store, P, sums, P
 
 static void line(const char *call, const char *checks, uint32_t answer) {
     printf("%s: %s: %u\n", call, checks, answer);
@@ -68,9 +70,9 @@ static struct told predict_in_room(uint32_t order, uint32_t taps, int32_t first,
     return (struct told){answer, period};
 }
 
-static struct told start(uint32_t order, uint32_t taps, uint32_t count, size_t store_len, size_t sums_len) {
+static struct told start(uint32_t order, uint32_t taps, uint32_t count, uint32_t in_edition, size_t store_len, size_t sums_len) {
     uint32_t period = UNWRITTEN;
-    uint32_t answer = meter_start(order, taps, count, TABLES, store, store_len, sums, sums_len, &period);
+    uint32_t answer = meter_start(order, taps, count, in_edition, TABLES, store, store_len, sums, sums_len, &period);
     return (struct told){answer, period};
 }
 
@@ -99,7 +101,7 @@ static void registers(void) {
         told_line("recording", checks, recording(order, taps, 1, P, P, ROOM, TAGS));
         told_line("predict", checks, predict(order, taps, 1, P, P));
         told_line("predict in a room", checks, predict_in_room(order, taps, 1, P, P, ROOM));
-        told_line("start", checks, start(order, taps, 1, P, P));
+        told_line("start", checks, start(order, taps, 1, METER_HALVES_AWAY, P, P));
         if (i == 3)
             break;
         new_player(order, taps, checks);
@@ -129,9 +131,24 @@ static void recordings(void) {
     told_line("predict in a room", "6 before 7", predict_in_room(2, 3, 8388608, P, P - 1, ROOM));
     told_line("predict in a room", "6 before 7", predict_in_room(2, 3, 8388608, P, P, ROOM - 1));
     told_line("predict in a room", "7 before 8", predict_in_room(2, 3, 8388608, P, P, ROOM));
-    told_line("start", "4 before 9", start(2, 1, 0, P, P));
-    told_line("start", "9 before 6", start(2, 3, 65, 64 * P, P));
-    told_line("start", "9 before 6", start(2, 3, 0, P, P - 1));
+    told_line("start", "4 before 9", start(2, 1, 0, METER_HALVES_AWAY, P, P));
+    told_line("start", "9 before 6", start(2, 3, 65, METER_HALVES_AWAY, 64 * P, P));
+    told_line("start", "9 before 6", start(2, 3, 0, METER_HALVES_AWAY, P, P - 1));
+}
+
+/* Editions that are none: those next to the two that are, and alone also some of which the lowest 8 or 16 bits are one that is. */
+static void edition_starts(void) {
+    static const uint32_t beside[] = {0, 3}, alone[] = {0, 3, 257, 258, 65537, UINT32_MAX};
+    for (size_t i = 0; i < sizeof beside / sizeof *beside; i++) {
+        told_line("start", "9 before 24", start(ORDER, TAPS, 0, beside[i], P, P));
+        told_line("start", "9 before 24", start(ORDER, TAPS, METER_SLOTS + 1, beside[i], (METER_SLOTS + 1) * P, P));
+    }
+    for (size_t i = 0; i < sizeof beside / sizeof *beside; i++) {
+        told_line("start", "24 before 6", start(ORDER, TAPS, 1, beside[i], P - 1, P));
+        told_line("start", "24 before 6", start(ORDER, TAPS, 1, beside[i], P, P - 1));
+    }
+    for (size_t i = 0; i < sizeof alone / sizeof *alone; i++)
+        told_line("start", "24 alone", start(ORDER, TAPS, 1, alone[i], P, P));
 }
 
 /* ---- a campaign ---- */
@@ -140,7 +157,7 @@ static void recordings(void) {
  * NO_PERIODS_OF_ZEROS holds zeros, as a free one does. */
 enum damage {
     WHOLE, SUM, FREE_PERIODS, PAST_C_PERIODS, NO_PERIODS, NO_PERIODS_OF_ZEROS, MANY_PERIODS, BEYOND_ITS_PERIODS,
-    SHORT_DAYS, SHORT_SLOTS, SHORT_PERIODS, DAMAGES
+    SHORT_DAYS, SHORT_SLOTS, SHORT_PERIODS, EDITION_BELOW, EDITION_ABOVE, DAMAGES
 };
 
 static void strike(enum damage damage) {
@@ -158,6 +175,8 @@ static void strike(enum damage damage) {
     case SHORT_DAYS: days_len = METER_DAYS - 1; break;
     case SHORT_SLOTS: slots_len = METER_SLOTS - 1; break;
     case SHORT_PERIODS: periods_len = METER_SLOTS - 1; break;
+    case EDITION_BELOW: edition = METER_HALVES_AWAY - 1; break;
+    case EDITION_ABOVE: edition = METER_HALVES_TO_EVEN + 1; break;
     default: break;
     }
 }
@@ -178,7 +197,8 @@ static void begin(enum damage damage, int standing) {
     uint32_t state;
     size_t value;
     mend_tables();
-    start(ORDER, TAPS, 1, P, P);
+    edition = METER_HALVES_AWAY;
+    start(ORDER, TAPS, 1, edition, P, P);
     if (standing && damage == NO_PERIODS_OF_ZEROS)
         meter_capture(RECORD, 1, 2, sums_to_zeros, 3 * P, &state, &value);
     else if (standing)
@@ -186,13 +206,18 @@ static void begin(enum damage damage, int standing) {
     strike(damage);
 }
 
-/* Each table too short, at a slot count that is none, and at one that is. */
+/* Each table too short, at a slot count that is none, at an edition that is none, and at ones that are. */
 static void starts(void) {
-    static const char *const checks[2] = {"9 before 6", "6 alone"};
-    for (uint32_t count = 0; count < 2; count++)
+    static const struct { const char *checks; uint32_t count, edition; } shapes[] = {
+        {"9 before 6", 0, METER_HALVES_AWAY},
+        {"24 before 6", 1, METER_HALVES_AWAY - 1},
+        {"24 before 6", 1, METER_HALVES_TO_EVEN + 1},
+        {"6 alone", 1, METER_HALVES_AWAY},
+    };
+    for (size_t i = 0; i < sizeof shapes / sizeof *shapes; i++)
         for (enum damage damage = SHORT_DAYS; damage <= SHORT_PERIODS; damage++) {
             strike(damage);
-            told_line("start", checks[count], start(ORDER, TAPS, count, P, P));
+            told_line("start", shapes[i].checks, start(ORDER, TAPS, shapes[i].count, shapes[i].edition, P, P));
             mend_tables();
         }
 }
@@ -514,6 +539,7 @@ static void asks(enum damage damage, const char *response_checks, const char *su
 int main(void) {
     registers();
     recordings();
+    edition_starts();
     starts();
     enters();
     refused_captures();

@@ -376,7 +376,7 @@ static void judge_case(void) {
 /* ---- a campaign: its start, and a run of calls on what that left, some on a damaged record ---- */
 
 struct held {
-    uint32_t order, taps, count;
+    uint32_t order, taps, count, edition;
     uint8_t *days;
     uint16_t *slots;
     uint8_t *periods;
@@ -384,14 +384,21 @@ struct held {
     int64_t *sums;
     size_t days_len, slots_len, periods_len, store_len, sums_len;
 };
-#define RECORD c->order, c->taps, c->count, c->days, c->days_len, c->slots, c->slots_len, c->periods, c->periods_len, \
-               c->store, c->store_len, c->sums, c->sums_len
+#define RECORD_IN(edition) c->order, c->taps, c->count, edition, c->days, c->days_len, c->slots, c->slots_len, c->periods, c->periods_len, \
+                           c->store, c->store_len, c->sums, c->sums_len
+#define RECORD RECORD_IN(c->edition)
 #define MEMORY d8(c->days, c->days_len), d16(c->slots, c->slots_len), d8(c->periods, c->periods_len), \
                d32(c->store, c->store_len), d64(c->sums, c->sums_len)
 #define MEMORY_PRINTED "%" PRId64 " %" PRId64 " %" PRId64 " %" PRId64 " %" PRId64 "\n"
 
-/* Kinds of damage: those from TO_AN_EDGE to TO_ONE_PERIOD strike a used slot, IN_THE_FIRST_C one of the first C, which may be free. KINDS is none. */
-enum { DAY, SLOT, SAMPLE, SUM, COUNT, TO_AN_EDGE, TO_NO_PERIODS, TO_TOO_MANY, TO_ONE_PERIOD, ANY_PERIODS, IN_THE_FIRST_C, KINDS };
+/* Of two editions the other one. */
+static uint32_t other_edition(const struct held *c) { return METER_HALVES_AWAY + METER_HALVES_TO_EVEN - c->edition; }
+
+/* Kinds of damage: those from TO_AN_EDGE to TO_ONE_PERIOD strike a used slot, IN_THE_FIRST_C one of the first C, which may be free. After OTHER_EDITION
+ * a record holds together where it did before. KINDS is none. */
+enum {
+    DAY, SLOT, SAMPLE, SUM, COUNT, TO_AN_EDGE, TO_NO_PERIODS, TO_TOO_MANY, TO_ONE_PERIOD, ANY_PERIODS, IN_THE_FIRST_C, OTHER_EDITION, NO_EDITION, KINDS
+};
 
 /* Where damage strikes, and what stood there. */
 struct damage {
@@ -401,7 +408,7 @@ struct damage {
     uint8_t period_was;
     int32_t sample_was;
     int64_t sum_was;
-    uint32_t count_was;
+    uint32_t count_was, edition_was;
 };
 
 /* The first used slot from `slot` on that the periods reach, going round; past all slots where there is none. */
@@ -427,7 +434,8 @@ static struct damage drawn_places(const struct held *c, uint64_t kind) {
     }
     if (kind == IN_THE_FIRST_C)
         period %= first_c;
-    return (struct damage){day, slot, period, sample, sum, c->days[day], c->slots[slot], c->periods[period], c->store[sample], c->sums[sum], c->count};
+    return (struct damage){day, slot, period, sample, sum, c->days[day], c->slots[slot], c->periods[period], c->store[sample], c->sums[sum], c->count,
+                           c->edition};
 }
 
 /* A stored number moves to the lowest or the highest that its periods allow, or one beyond, and the sum of its place with it, so that only the slot
@@ -441,6 +449,7 @@ static void move_to_edge(struct held *c, const struct damage *d, uint64_t edge) 
 
 /* One call in five meets damage. */
 static struct damage damaged(struct held *c) {
+    static const uint32_t no_edition[4] = {0, 3, 258, UINT32_MAX};
     uint64_t kind = below(5) == 0 ? below(KINDS) : KINDS;
     struct damage d = drawn_places(c, kind);
     uint64_t edge = below(4);
@@ -456,6 +465,8 @@ static struct damage damaged(struct held *c) {
     case TO_ONE_PERIOD: c->periods[d.period] = 1; break;
     case ANY_PERIODS:
     case IN_THE_FIRST_C: c->periods[d.period]++; break;
+    case OTHER_EDITION: c->edition = other_edition(c); break;
+    case NO_EDITION: c->edition = no_edition[edge]; break;
     }
     return d;
 }
@@ -467,6 +478,7 @@ static void mend(struct held *c, const struct damage *d) {
     c->store[d->sample] = d->sample_was;
     c->sums[d->sum] = d->sum_was;
     c->count = d->count_was;
+    c->edition = d->edition_was;
 }
 
 static uint32_t enter_call(struct held *c) {
@@ -534,7 +546,10 @@ static uint32_t counts_call(struct held *c) {
     return answer;
 }
 
-/* A response, or a summary, with room drawn alike for both. */
+#define REPORT d64(r, a), d32(mean, m), d64(room, w), d16(tags, t)
+#define REPORT_PRINTED "%" PRId64 " %" PRId64 " %" PRId64 " %" PRId64 "\n"
+
+/* A response, once more in the other edition where it is accepted, or a summary, with room drawn alike for both. */
 static uint32_t asked_call(struct held *c, int summed) {
     size_t p = period_of(c->order), a = near(p), m = near(p), w = near(p + 1), t = near_tags(p);
     FILLED(int64_t, r, a);
@@ -551,8 +566,11 @@ static uint32_t asked_call(struct held *c, int summed) {
                stands, bits[0], bits[1], bits[2], d64(room, w), d16(tags, t));
     } else {
         answer = meter_response(RECORD, r, a, mean, m, room, w, tags, t);
-        printf("%" PRIu64 " response %u %" PRId64 " %" PRId64 " %" PRId64 " %" PRId64 "\n", number, answer,
-               d64(r, a), d32(mean, m), d64(room, w), d16(tags, t));
+        printf("%" PRIu64 " response %u " REPORT_PRINTED, number, answer, REPORT);
+        if (answer == METER_ACCEPTED) {
+            uint32_t again = meter_response(RECORD_IN(other_edition(c)), r, a, mean, m, room, w, tags, t);
+            printf("%" PRIu64 " other edition %u " REPORT_PRINTED, number, again, REPORT);
+        }
     }
     free(r);
     free(mean);
@@ -568,9 +586,11 @@ static uint32_t campaign_call(struct held *c, uint64_t what) {
         return capture_call(c);
     if (what < 10)
         return withdraw_call(c);
-    if (what > 12)
-        return file_call(c, what > 15);
-    return what == 10 ? counts_call(c) : asked_call(c, what == 12);
+    if (what == 10)
+        return counts_call(c);
+    if (what >= 12 && what < 18)
+        return file_call(c, what >= 15);
+    return asked_call(c, what == 11);
 }
 
 /* From this order on a campaign has few slots and few calls. */
@@ -593,13 +613,20 @@ static uint32_t any_count(uint32_t order) {
     return sort > 0 && sort < 6 ? 1 : few;
 }
 
+/* One in ten is none. */
+static uint32_t any_edition(void) {
+    static const uint32_t none[5] = {0, 3, 257, 65538, UINT32_MAX};
+    uint64_t a = below(10);
+    return a == 0 ? none[below(5)] : a < 5 ? METER_HALVES_AWAY : METER_HALVES_TO_EVEN;
+}
+
 /* One table in twenty is too short. */
 static size_t table_length(size_t n) {
     return below(20) == 0 ? n - 1 : n + below(3);
 }
 
 static void campaign_case(void) {
-    uint32_t order = any_order(), taps = campaign_taps(order), count = any_count(order), period = UNWRITTEN;
+    uint32_t order = any_order(), taps = campaign_taps(order), count = any_count(order), edition = any_edition(), period = UNWRITTEN;
     size_t p = period_of(order), store_len = near((count == 0 ? 1 : count) * p), sums_len = near(p);
     size_t days_len = table_length(METER_DAYS), slots_len = table_length(METER_SLOTS), periods_len = table_length(METER_SLOTS);
     FILLED(uint8_t, days, days_len);
@@ -607,13 +634,13 @@ static void campaign_case(void) {
     FILLED(uint8_t, periods, periods_len);
     FILLED(int32_t, store, store_len);
     FILLED(int64_t, sums, sums_len);
-    struct held campaign = {order, taps, count, days, slots, periods, store, sums, days_len, slots_len, periods_len, store_len, sums_len};
+    struct held campaign = {order, taps, count, edition, days, slots, periods, store, sums, days_len, slots_len, periods_len, store_len, sums_len};
     struct held *c = &campaign;
     uint32_t started = meter_start(RECORD, &period);
     printf("%" PRIu64 " start %u %u " MEMORY_PRINTED, number, started, period, MEMORY);
     /* Where the start was refused the record is none, and every call is refused alike. */
     for (uint64_t steps = 2 + below(started == 0 && order < LONG_ORDER ? 15 : 4); steps > 0; steps--) {
-        uint64_t what = below(19);
+        uint64_t what = below(22);
         struct damage d = damaged(c);
         if (campaign_call(c, what) == 15)
             mend(c, &d);

@@ -1,11 +1,11 @@
-/* The working room of one recording, a response and a summary at every order, 2 to 16: what is lent short is refused with 6 and left as it was, what is
- * enough is accepted, and nothing behind P+1 wide numbers and P tags is touched. Prints what is wrong, and a last line. */
+/* The working room of one recording, a response in either edition and a summary at every order, 2 to 16: what is lent short is refused with 6 and left as
+ * it was, what is enough is accepted, and nothing behind P+1 wide numbers and P tags is touched. Prints what is wrong, and a last line. */
 #include "meter.h"
 #include <stdio.h>
 
 enum { LEAST_ORDER = 2, MOST_ORDER = 16, MOST_P = 65535, CANARY = 9 };
-enum { RECORDING, RESPONSE, SUMMARY, USERS };
-static const char *const users[USERS] = {"recording", "response", "summary"};
+enum { RECORDING, RESPONSE, RESPONSE_TO_EVEN, SUMMARY, USERS };
+static const char *const users[USERS] = {"recording", "response", "response in edition 2", "summary"};
 
 /* A campaign of one slot, its night, the outputs, and a room with canaries behind what is lent. */
 static uint32_t order, taps;
@@ -19,7 +19,8 @@ static uint16_t tags[2 * MOST_P + 1];
 static uint32_t stands;
 static int made, wrong;
 
-#define RECORD order, taps, 1, days, METER_DAYS, slots, METER_SLOTS, periods, METER_SLOTS, store, p, sums, p
+#define RECORD_IN(edition) order, taps, 1, edition, days, METER_DAYS, slots, METER_SLOTS, periods, METER_SLOTS, store, p, sums, p
+#define RECORD RECORD_IN(METER_HALVES_AWAY)
 
 static uint32_t answer_of(int user, size_t wide_len, size_t tags_len) {
     uint32_t period;
@@ -27,6 +28,7 @@ static uint32_t answer_of(int user, size_t wide_len, size_t tags_len) {
     switch (user) {
     case RECORDING: return meter_recording(order, taps, y, p, r, p, wide, wide_len, tags, tags_len, &period);
     case RESPONSE: return meter_response(RECORD, r, p, mean, p, wide, wide_len, tags, tags_len);
+    case RESPONSE_TO_EVEN: return meter_response(RECORD_IN(METER_HALVES_TO_EVEN), r, p, mean, p, wide, wide_len, tags, tags_len);
     default: return meter_summary(RECORD, wide, wide_len, tags, tags_len, &stands, &levels[0], &levels[1], &levels[2]);
     }
 }
@@ -69,8 +71,10 @@ static void begin(uint32_t of_order) {
     for (size_t j = 0; j < p; j++)
         y[j] = (int32_t)(j * 7919 % 20001) - 10000;
     must(meter_default_taps(order, &taps) == 0 && meter_start(RECORD, &period) == 0, "a start");
-    expect(RESPONSE, p + 1, p - 1, 6, 0);
-    expect(RESPONSE, p + 1, p, 14, 0);
+    for (int user = RESPONSE; user <= RESPONSE_TO_EVEN; user++) {
+        expect(user, p + 1, p - 1, 6, 0);
+        expect(user, p + 1, p, 14, 0);
+    }
     expect(SUMMARY, p + 1, p - 1, 6, 0);
     stands = CANARY;
     expect(SUMMARY, p + 1, p, 0, 0);

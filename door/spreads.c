@@ -22,7 +22,7 @@ static uint32_t m;
 static int32_t night[(MOST_M + 1) * MOST_P], *y;
 static size_t judged;
 
-#define RECORD order, taps, 1, days, METER_DAYS, slots, METER_SLOTS, periods, METER_SLOTS, store, p, sums, p
+#define RECORD order, taps, 1, METER_HALVES_AWAY, days, METER_DAYS, slots, METER_SLOTS, periods, METER_SLOTS, store, p, sums, p
 
 /* The night is entered, has this verdict, and is taken out again where it was kept. */
 static void expect(uint32_t expected, size_t place) {

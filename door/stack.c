@@ -151,7 +151,8 @@ static int64_t sums[MOST_P], r[MOST_P];
 static uint32_t shown, numbers[5];
 static double levels[3];
 
-#define RECORD call.order, call.taps, 1, days, METER_DAYS, slots, METER_SLOTS, periods, METER_SLOTS, store, p, sums, p
+#define RECORD_IN(edition) call.order, call.taps, 1, edition, days, METER_DAYS, slots, METER_SLOTS, periods, METER_SLOTS, store, p, sums, p
+#define RECORD RECORD_IN(METER_HALVES_AWAY)
 #define ROOM room, p + 1, tags, p
 
 static uint32_t start(void) { return meter_start(RECORD, &period); }
@@ -162,14 +163,17 @@ static uint32_t file_capture(void) { return meter_file_capture(RECORD, 1, m, nig
 static uint32_t withdraw(void) { return meter_withdraw(RECORD, 1); }
 static uint32_t counts(void) { return meter_counts(RECORD, &numbers[0], &numbers[1], &numbers[2], &numbers[3], &numbers[4]); }
 static uint32_t response(void) { return meter_response(RECORD, r, p, mean, p, ROOM); }
+static uint32_t response_to_even(void) { return meter_response(RECORD_IN(METER_HALVES_TO_EVEN), r, p, mean, p, ROOM); }
 static uint32_t summary(void) { return meter_summary(RECORD, ROOM, &numbers[0], &levels[0], &levels[1], &levels[2]); }
 
 /* The calls, in an order in which each is accepted, each with the m that a capture has then, and whether the night is dead. */
 static const struct { const char *name; uint32_t (*by)(void); uint32_t m; int dead; } calls[] = {
     {"meter_start", start, 0, 0}, {"meter_enter", enter, 0, 1}, {"meter_enter", enter, 0, 0},
-    {"meter_counts", counts, 0, 0}, {"meter_response", response, 0, 0}, {"meter_summary", summary, 0, 0}, {"meter_withdraw", withdraw, 0, 0},
+    {"meter_counts", counts, 0, 0}, {"meter_response", response, 0, 0}, {"meter_response", response_to_even, 0, 0},
+    {"meter_summary", summary, 0, 0}, {"meter_withdraw", withdraw, 0, 0},
     {"meter_capture", capture, MOST_M, 1}, {"meter_capture", capture, 1, 0}, {"meter_withdraw", withdraw, 0, 0}, {"meter_capture", capture, MOST_M, 0},
-    {"meter_counts", counts, 0, 0}, {"meter_response", response, 0, 0}, {"meter_summary", summary, 0, 0}, {"meter_withdraw", withdraw, 0, 0},
+    {"meter_counts", counts, 0, 0}, {"meter_response", response, 0, 0}, {"meter_response", response_to_even, 0, 0},
+    {"meter_summary", summary, 0, 0}, {"meter_withdraw", withdraw, 0, 0},
     {"meter_file", file, 0, 1}, {"meter_file", file, 0, 0}, {"meter_withdraw", withdraw, 0, 0},
     {"meter_file_capture", file_capture, MOST_M, 1}, {"meter_file_capture", file_capture, 1, 0}, {"meter_withdraw", withdraw, 0, 0},
     {"meter_file_capture", file_capture, MOST_M, 0},

@@ -4,7 +4,7 @@
 #include <inttypes.h>
 #include <stdio.h>
 
-enum { ORDER = 3, TAPS = 3, MISTYPED = 7, P = 7, SLOT_COUNT = 2, PERIODS = 2 };
+enum { ORDER = 3, TAPS = 3, MISTYPED = 7, P = 7, SLOT_COUNT = 2, EDITION = METER_HALVES_AWAY, PERIODS = 2 };
 
 static uint8_t days[METER_DAYS];
 static uint16_t slots[METER_SLOTS];
@@ -13,11 +13,11 @@ static int32_t store[SLOT_COUNT * P];
 static int64_t sums[P];
 
 #define MEMORY days, METER_DAYS, slots, METER_SLOTS, periods, METER_SLOTS, store, SLOT_COUNT * P, sums, P
-#define CAMPAIGN ORDER, TAPS, SLOT_COUNT, MEMORY
+#define CAMPAIGN ORDER, TAPS, SLOT_COUNT, EDITION, MEMORY
 
 static uint32_t start(uint32_t taps) {
     uint32_t period = 0;
-    uint32_t answer = meter_start(ORDER, taps, SLOT_COUNT, MEMORY, &period);
+    uint32_t answer = meter_start(ORDER, taps, SLOT_COUNT, EDITION, MEMORY, &period);
     printf("taps %" PRIu32 ": %s", taps, meter_explain(answer));
     if (answer == METER_NOT_MAXIMAL)
         printf(", back after %" PRIu32 " of %d steps", period, P);

@@ -24,6 +24,9 @@ enum { METER_DAYS = 366, METER_SLOTS = 64 };
 /* A day's state, in the table of days and as the state that a verdict gives. */
 enum { METER_UNSEEN, METER_STANDING, METER_OVERLOADED, METER_DEAD, METER_WITHDRAWN };
 
+/* The editions of the report rules: where a mean is at an exact half, 1 rounds it away from zero and 2 to the even neighbour. */
+enum { METER_HALVES_AWAY = 1, METER_HALVES_TO_EVEN = 2 };
+
 /* ---- refusals ---- */
 
 enum {
@@ -46,7 +49,8 @@ enum {
     METER_WINDOW_OUT_OF_RANGE = 16,
     METER_BEYOND_THE_PROGRAM = 17,
     METER_PERIODS_OUT_OF_RANGE = 18,
-    METER_VERDICT_DIFFERS = 23
+    METER_VERDICT_DIFFERS = 23,
+    METER_EDITION_UNKNOWN = 24
 };
 
 /* An answer in words. It is made of this header alone: the library has no such function. */
@@ -72,6 +76,7 @@ static inline const char *meter_explain(uint32_t n) {
     case METER_BEYOND_THE_PROGRAM: return "the program only: order above 9, slots above 8, or 5 to 16 periods";
     case METER_PERIODS_OUT_OF_RANGE: return "periods not 1 to 16";
     case METER_VERDICT_DIFFERS: return "verdict handed in is not what judging gives";
+    case METER_EDITION_UNKNOWN: return "edition not 1 or 2";
     default: return "unknown";
     }
 }
@@ -130,12 +135,13 @@ uint32_t meter_judge(uint32_t order, uint32_t taps, const int32_t *y, size_t y_l
 uint32_t meter_judge_capture(uint32_t order, uint32_t taps, uint32_t m, const int32_t *y, size_t y_len,
                              uint32_t *state, size_t *value, uint32_t *period);
 
-/* ---- a campaign: the record is order, taps and capacity, which no call changes, and the three tables `days` (366), `slots` (64) and `periods` (64).
- * A used slot's entry of `periods` is how many periods its night had, 1 to 16; every other entry is 0. A shorter table is room too short at a start, 6
- * in its place; every other call refuses it with 15 before all else. The store is capacity * P samples, the sums P wide numbers. ---- */
+/* ---- a campaign: the record is order, taps, capacity and edition, which no call changes, and the three tables `days` (366), `slots` (64) and `periods`
+ * (64). Hand every call the edition that the campaign was started with: only the mean depends on it. A used slot's entry of `periods` is how many periods
+ * its night had, 1 to 16; every other entry is 0. At a start a shorter table is room too short, 6 in its place, and an edition other than 1 or 2 is 24;
+ * every other call refuses both with 15 before all else. The store is capacity * P samples, the sums P wide numbers. ---- */
 
-/* Every day unseen, every slot free, zeros in the store and the sums: 1, 2, 3, 4, 9, 6. */
-uint32_t meter_start(uint32_t order, uint32_t taps, uint32_t capacity, uint8_t *days, size_t days_len,
+/* Every day unseen, every slot free, zeros in the store and the sums: 1, 2, 3, 4, 9, 24, 6. */
+uint32_t meter_start(uint32_t order, uint32_t taps, uint32_t capacity, uint32_t edition, uint8_t *days, size_t days_len,
                      uint16_t *slots, size_t slots_len, uint8_t *periods, size_t periods_len,
                      int32_t *store, size_t store_len, int64_t *sums, size_t sums_len,
                      uint32_t *period);
@@ -143,14 +149,14 @@ uint32_t meter_start(uint32_t order, uint32_t taps, uint32_t capacity, uint8_t *
 /* A day's night of one period, P samples, judged and filed in one call, which is a filing with the verdict that judging gives: 15, 10, 5, 7, 11, and 12
  * after the verdict. `state` is the state that the verdict gives the day, and `value` the slot of one that stands, the first place at a rail of one that
  * is overloaded, 0 of one that is dead. */
-uint32_t meter_enter(uint32_t order, uint32_t taps, uint32_t capacity, uint8_t *days, size_t days_len,
+uint32_t meter_enter(uint32_t order, uint32_t taps, uint32_t capacity, uint32_t edition, uint8_t *days, size_t days_len,
                      uint16_t *slots, size_t slots_len, uint8_t *periods, size_t periods_len,
                      int32_t *store, size_t store_len, int64_t *sums, size_t sums_len,
                      uint32_t day, const int32_t *y, size_t y_len, uint32_t *state, size_t *value);
 
 /* The same of a day's capture of m+1 periods, (m+1) * P samples, m from 1 to 16, which is a filing with the verdict that judging gives too: 15, 10, 18, 5,
  * 7, 11, and 12 after the verdict. The run-in is dropped; the other m periods, where they are kept, are summed place by place. */
-uint32_t meter_capture(uint32_t order, uint32_t taps, uint32_t capacity, uint8_t *days, size_t days_len,
+uint32_t meter_capture(uint32_t order, uint32_t taps, uint32_t capacity, uint32_t edition, uint8_t *days, size_t days_len,
                        uint16_t *slots, size_t slots_len, uint8_t *periods, size_t periods_len,
                        int32_t *store, size_t store_len, int64_t *sums, size_t sums_len,
                        uint32_t day, uint32_t m, const int32_t *y, size_t y_len, uint32_t *state, size_t *value);
@@ -158,34 +164,35 @@ uint32_t meter_capture(uint32_t order, uint32_t taps, uint32_t capacity, uint8_t
 /* A day's night of one period filed with the verdict that was shown of it: 15, 10, 5, 7, 11, 23, and 12 after the verdict. `shown` and `place` are the
  * `state` and the `value` that meter_judge wrote: METER_STANDING and 0, METER_OVERLOADED and a place, or METER_DEAD and 0. Where judging gives another
  * pair for this night, or the pair is none of these, it is 23. Accepted, it does all that meter_enter does. */
-uint32_t meter_file(uint32_t order, uint32_t taps, uint32_t capacity, uint8_t *days, size_t days_len,
+uint32_t meter_file(uint32_t order, uint32_t taps, uint32_t capacity, uint32_t edition, uint8_t *days, size_t days_len,
                     uint16_t *slots, size_t slots_len, uint8_t *periods, size_t periods_len,
                     int32_t *store, size_t store_len, int64_t *sums, size_t sums_len,
                     uint32_t day, const int32_t *y, size_t y_len, uint32_t shown, size_t place, uint32_t *state, size_t *value);
 
 /* The same of a day's capture, with the verdict that meter_judge_capture gave: 15, 10, 18, 5, 7, 11, 23, and 12 after the verdict. Accepted, it does all
  * that meter_capture does. */
-uint32_t meter_file_capture(uint32_t order, uint32_t taps, uint32_t capacity, uint8_t *days, size_t days_len,
+uint32_t meter_file_capture(uint32_t order, uint32_t taps, uint32_t capacity, uint32_t edition, uint8_t *days, size_t days_len,
                             uint16_t *slots, size_t slots_len, uint8_t *periods, size_t periods_len,
                             int32_t *store, size_t store_len, int64_t *sums, size_t sums_len,
                             uint32_t day, uint32_t m, const int32_t *y, size_t y_len, uint32_t shown, size_t place,
                             uint32_t *state, size_t *value);
 
 /* A standing day withdrawn: 15, 10, 13. */
-uint32_t meter_withdraw(uint32_t order, uint32_t taps, uint32_t capacity, uint8_t *days, size_t days_len,
+uint32_t meter_withdraw(uint32_t order, uint32_t taps, uint32_t capacity, uint32_t edition, uint8_t *days, size_t days_len,
                         uint16_t *slots, size_t slots_len, uint8_t *periods, size_t periods_len,
                         int32_t *store, size_t store_len, int64_t *sums, size_t sums_len,
                         uint32_t day);
 
 /* The days in each of the five states: 15. */
-uint32_t meter_counts(uint32_t order, uint32_t taps, uint32_t capacity, const uint8_t *days, size_t days_len,
+uint32_t meter_counts(uint32_t order, uint32_t taps, uint32_t capacity, uint32_t edition, const uint8_t *days, size_t days_len,
                       const uint16_t *slots, size_t slots_len, const uint8_t *periods, size_t periods_len,
                       const int32_t *store, size_t store_len,
                       const int64_t *sums, size_t sums_len,
                       uint32_t *unseen, uint32_t *standing, uint32_t *overloaded, uint32_t *dead, uint32_t *withdrawn);
 
-/* r worked from the sums, and the mean over the periods standing, P places each: 15, 6, 14. The room as for one recording. */
-uint32_t meter_response(uint32_t order, uint32_t taps, uint32_t capacity, const uint8_t *days, size_t days_len,
+/* r worked from the sums, and the mean over the periods standing, P places each: 15, 6, 14. The mean is rounded to the nearest whole number, an exact
+ * half as the edition has it; r is not rounded. The room as for one recording. */
+uint32_t meter_response(uint32_t order, uint32_t taps, uint32_t capacity, uint32_t edition, const uint8_t *days, size_t days_len,
                         const uint16_t *slots, size_t slots_len, const uint8_t *periods, size_t periods_len,
                         const int32_t *store, size_t store_len,
                         const int64_t *sums, size_t sums_len, int64_t *r, size_t r_len, int32_t *mean, size_t mean_len,
@@ -193,7 +200,7 @@ uint32_t meter_response(uint32_t order, uint32_t taps, uint32_t capacity, const 
 
 /* The highest r, the lowest r and r at the peak, each over (P+1) times the periods standing: 15, 6. Where no day stands, `stands` becomes 0 and the
  * levels and the room stay as they were; where one does, `stands` becomes 1. */
-uint32_t meter_summary(uint32_t order, uint32_t taps, uint32_t capacity, const uint8_t *days, size_t days_len,
+uint32_t meter_summary(uint32_t order, uint32_t taps, uint32_t capacity, uint32_t edition, const uint8_t *days, size_t days_len,
                        const uint16_t *slots, size_t slots_len, const uint8_t *periods, size_t periods_len,
                        const int32_t *store, size_t store_len,
                        const int64_t *sums, size_t sums_len, int64_t *room, size_t room_len, uint16_t *tags, size_t tags_len,

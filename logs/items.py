@@ -1,12 +1,13 @@
-"""The items of a log as bytes (document 01, "The log program", which calls them records; a capture is of request 1 of document 02).
+"""The items of a log as bytes (document 01, "The log program", which calls them records; a capture is of request 1 of document 02, an edition of
+request 9).
 
 One byte of kind, then a body whose length the kind fixes; numbers little-endian.
 """
 
-START, OPEN, SAMPLE, ENTER, WITHDRAW, ASK, CAPTURE = range(1, 8)
+START, OPEN, SAMPLE, ENTER, WITHDRAW, ASK, CAPTURE, EDITION = range(1, 9)
 
 # How many bytes each number of a kind's body has. A sample is signed, the others are not.
-BODIES = {START: (1, 2, 1), OPEN: (2,), SAMPLE: (3,), ENTER: (), WITHDRAW: (2,), ASK: (), CAPTURE: (2, 1)}
+BODIES = {START: (1, 2, 1), OPEN: (2,), SAMPLE: (3,), ENTER: (), WITHDRAW: (2,), ASK: (), CAPTURE: (2, 1), EDITION: (1,)}
 
 
 def encode(kind, *numbers):

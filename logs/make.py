@@ -9,7 +9,8 @@ The text is that of `second text`: one item a line, `samples` any number of them
     ask
     withdraw 1
 
-A night of several periods is opened with `capture DAY M` in the place of `day DAY`: a run-in and M periods, (M + 1) * P samples.
+A night of several periods is opened with `capture DAY M` in the place of `day DAY`: a run-in and M periods, (M + 1) * P samples. Directly after `start`
+may stand `edition 2`, and the means are then those of edition 2 of the report rules; `edition 1`, or none, is edition 1.
 
 Each number has to fit its bytes and no more is checked, so that a log which the program must call bad can be made too. A bad line is named
 with its number, nothing is written, and the exit status is 1; 2 where the input is not text.
@@ -18,11 +19,12 @@ with its number, nothing is written, and the exit status is 1; 2 where the input
 import re
 import sys
 
-from items import ASK, CAPTURE, ENTER, OPEN, SAMPLE, START, WITHDRAW, encode
+from items import ASK, CAPTURE, EDITION, ENTER, OPEN, SAMPLE, START, WITHDRAW, encode
 
 DAY = ("day", 0, 65535)
 NUMBERS = {
     "start": (START, [("order", 0, 255), ("taps", 0, 65535), ("slots", 0, 255)], "write `start ORDER TAPS SLOTS`"),
+    "edition": (EDITION, [("edition", 0, 255)], "write `edition N`"),
     "day": (OPEN, [DAY], "write `day N`, and the samples on lines of their own"),
     "capture": (CAPTURE, [DAY, ("m", 0, 255)], "write `capture DAY M`, and the samples on lines of their own"),
     "enter": (ENTER, [], "nothing may follow `enter`"),
@@ -57,7 +59,7 @@ def items(line):
             raise BadLine("write `samples` and at least one value")
         return b"".join(encode(SAMPLE, value(word, "sample", -8388608, 8388607)) for word in values)
     if name not in NUMBERS:
-        raise BadLine(f"`{name}` is not one of start, day, capture, samples, enter, withdraw, ask")
+        raise BadLine(f"`{name}` is not one of start, edition, day, capture, samples, enter, withdraw, ask")
     kind, places, otherwise = NUMBERS[name]
     if len(values) != len(places):
         raise BadLine(otherwise)

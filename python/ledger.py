@@ -6,7 +6,7 @@ It calls nothing of the core. `meter.Campaign` keeps a ledger of the calls made 
 from typing import NamedTuple, Optional
 
 STATES = ("unseen", "standing", "overloaded", "dead", "withdrawn")
-NOT_MAXIMAL, BEYOND_THE_PROGRAM, PERIODS_OUT_OF_RANGE, VERDICT_DIFFERS = 4, 17, 18, 23
+NOT_MAXIMAL, BEYOND_THE_PROGRAM, PERIODS_OUT_OF_RANGE, VERDICT_DIFFERS, EDITION_UNKNOWN = 4, 17, 18, 23, 24
 
 # Document 01, "Refusal numbers", and those that the requests of document 02 add.
 CAUSES = {
@@ -29,6 +29,7 @@ CAUSES = {
     BEYOND_THE_PROGRAM: "the program only: order above 9, slots above 8, or 5 to 16 periods",
     PERIODS_OUT_OF_RANGE: "periods not 1 to 16",
     VERDICT_DIFFERS: "verdict handed in is not what judging gives",
+    EDITION_UNKNOWN: "edition not 1 or 2",
 }
 
 

@@ -8,7 +8,8 @@ from -8388608 to 8388607; any sequence of them will do. A refused call raises `R
 are not maximal are refused with the number of steps after which their register returns. `explain` has every answer in words.
 A `Campaign` notes its refused calls in a ledger, and `not_in_mean()` says which nights are missing and why. A night is one period, or with `periods=m` a
 capture: a run-in of one period, which is dropped, and m that are summed. `judge` says what a night's verdict would be and keeps nothing; `Campaign.file`
-takes the night with that verdict, and `Campaign.enter` does both in one call.
+takes the night with that verdict, and `Campaign.enter` does both in one call. A campaign keeps the edition of the report rules that it was started in:
+HALVES_AWAY, which is 1, or HALVES_TO_EVEN, which is 2. Only a mean at an exact half depends on it.
 """
 
 import contextlib
@@ -24,6 +25,7 @@ from ledger import NOT_MAXIMAL, STATES, Ledger, details, explain, how_short, ref
 
 DAYS = 366
 SLOTS = 64
+HALVES_AWAY, HALVES_TO_EVEN = 1, 2
 
 
 class Refused(Exception):
@@ -98,7 +100,7 @@ def _types(*kinds):
     return [t for k in kinds for t in ((_P(k[0]), _size) if isinstance(k, list) else (k,))]
 
 
-_RECORD = (_u32, _u32, _u32, [ctypes.c_uint8], [ctypes.c_uint16], [ctypes.c_uint8], [_i32], [ctypes.c_int64])
+_RECORD = (_u32, _u32, _u32, _u32, [ctypes.c_uint8], [ctypes.c_uint16], [ctypes.c_uint8], [_i32], [ctypes.c_int64])
 _ROOM = ([ctypes.c_int64], [ctypes.c_uint16])
 _PERIOD = _P(_u32)
 for _name, _kinds in {
@@ -309,10 +311,11 @@ def judge(order, taps, samples, periods=None):
 
 
 class Campaign:
-    """A year of nights: each is judged, and what is kept is averaged. Every call that names a day is noted in `ledger`."""
+    """A year of nights: each is judged, and what is kept is averaged, by the edition of the report rules that is chosen here. Every call that names a day
+    is noted in `ledger`."""
 
-    def __init__(self, order, taps=None, capacity=SLOTS):
-        self._numbers = (*_register(order, taps), _number(capacity, "capacity"))
+    def __init__(self, order, taps=None, capacity=SLOTS, edition=HALVES_AWAY):
+        self._numbers = (*_register(order, taps), _number(capacity, "capacity"), _number(edition, "edition"))
         p, room = _length(self.order), max(1, min(self._numbers[2], SLOTS))
         self._tables = (ctypes.c_uint8 * DAYS)(), (ctypes.c_uint16 * SLOTS)(), (ctypes.c_uint8 * SLOTS)()
         self._lent = (_i32 * (room * p))(), (ctypes.c_int64 * p)()
@@ -322,6 +325,10 @@ class Campaign:
     @property
     def order(self):
         return self._numbers[0]
+
+    @property
+    def edition(self):
+        return self._numbers[3]
 
     def _record(self):
         return (*self._numbers, *self._tables, *self._lent)
@@ -391,7 +398,7 @@ class Campaign:
         return dict(zip(STATES, (n.value for n in numbers)))
 
     def response(self):
-        """r worked from the sums of the standing days, and the mean over their periods."""
+        """r worked from the sums of the standing days, and the mean over their periods, exact halves rounded as the campaign's edition has them."""
         p = _length(self.order)
         r, mean = (ctypes.c_int64 * p)(), (_i32 * p)()
         _call("response", *self._record(), r, mean, *_room(self.order))
@@ -404,10 +411,10 @@ class Campaign:
         return Levels(*(x.value for x in levels)) if stands.value else None
 
 
-def trend(nights, order, taps=None, capacity=SLOTS):
+def trend(nights, order, taps=None, capacity=SLOTS, edition=HALVES_AWAY):
     """From a list of nights, (day, samples) or of a capture (day, samples, periods), to the mean response of those that stand, None where none does, and
     the days not in it, as `not_in_mean()` gives them once all are entered."""
-    campaign = Campaign(order, taps, capacity)
+    campaign = Campaign(order, taps, capacity, edition)
     for night in nights:
         with contextlib.suppress(Refused):
             campaign.enter(*night)

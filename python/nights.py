@@ -12,15 +12,15 @@ import pathlib
 import re
 import sys
 
-from ledger import BEYOND_THE_PROGRAM, NOT_MAXIMAL, PERIODS_OUT_OF_RANGE, STATES, Ledger, details, how_short, refusal
+from ledger import BEYOND_THE_PROGRAM, EDITION_UNKNOWN, NOT_MAXIMAL, PERIODS_OUT_OF_RANGE, STATES, Ledger, details, how_short, refusal
 
 sys.path.append(str(pathlib.Path(__file__).resolve().parent.parent / "logs"))
-from items import ASK, CAPTURE, ENTER, OPEN, SAMPLE, START, WITHDRAW, decode
+from items import ASK, CAPTURE, EDITION, ENTER, OPEN, SAMPLE, START, WITHDRAW, decode
 
 RAILS = (-8388608, 8388607)
 VERDICTS = {"kept": "standing", "overload": "overloaded", "dead": "dead"}
 DAY_OUT_OF_RANGE, DAY_STANDING, NOTHING_STANDING = 10, 11, 14
-DAYS, MOST_PERIODS, MOST_KEPT = 366, 16, 4
+DAYS, MOST_PERIODS, MOST_KEPT, EDITIONS = 366, 16, 4, (1, 2)
 
 
 class Fault(Exception):
@@ -34,9 +34,10 @@ class Reader:
         self.log, self.at = log, 0
         self.lines, self.taken = lines, 0
         self.ledger, self.responses, self.counted = Ledger(), 0, 0
-        self.length = self.capacity = self.day = self.periods = self.samples = None
+        self.length = self.capacity = self.day = self.periods = self.samples = self.last = None
         self.stopped = ""
-        self.takes = {START: self.start, OPEN: self.open, CAPTURE: self.open, SAMPLE: self.sample, ENTER: self.enter, WITHDRAW: self.withdraw, ASK: self.ask}
+        self.takes = {START: self.start, EDITION: self.edition, OPEN: self.open, CAPTURE: self.open, SAMPLE: self.sample}
+        self.takes |= {ENTER: self.enter, WITHDRAW: self.withdraw, ASK: self.ask}
 
     def line(self, begins, numbers, ends=""):
         """The numbers of the next line, which has to begin with these words, and its last word where it may end with one."""
@@ -79,6 +80,13 @@ class Reader:
         if answer != 0:
             detail = how_short(int(told), self.length) if told else None
             self.stopped = f"the start was refused {refusal(answer, detail)}; no night was read"
+
+    def edition(self, number):
+        (answer,) = self.line("edition", 1)
+        due = 0 if number in EDITIONS else EDITION_UNKNOWN
+        self.hold(answer == due, f"edition {number} is answered with {due}")
+        if answer != 0:
+            self.stopped = f"the start was refused {refusal(answer)}; no night was read"
 
     def open(self, day, periods=None):
         """Opens a day, as a capture where periods are given."""
@@ -127,7 +135,8 @@ class Reader:
         if self.length is None:
             return (START,)
         if self.day is None:
-            return (OPEN, CAPTURE, WITHDRAW, ASK)
+            outside = (OPEN, CAPTURE, WITHDRAW, ASK)
+            return (EDITION, *outside) if self.last == START else outside
         limit = self.length if self.periods is None else (self.periods + 1) * self.length
         return (ENTER,) if len(self.samples) == limit else (SAMPLE, ENTER)
 
@@ -146,7 +155,7 @@ class Reader:
                 self.bad()
             else:
                 self.takes[kind](*item[0])
-                self.at = item[1]
+                self.at, self.last = item[1], kind
         if not self.stopped and (self.day is not None or not self.log):
             self.bad()
         if self.taken < len(self.lines):

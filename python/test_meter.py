@@ -1,5 +1,5 @@
-"""Tries every call of meter.py on document 01's numbers and on its order of checks, captures of several periods, nights judged and then filed, the room
-that it lends, the periods of registers that it tells, the ledger of nights, and the example."""
+"""Tries every call of meter.py on document 01's numbers and on its order of checks, captures of several periods, nights judged and then filed, both
+editions of the report rules, the room that it lends, the periods of registers that it tells, the ledger of nights, and the example."""
 import ctypes
 import os
 import pathlib
@@ -320,6 +320,96 @@ class Filing(Case):
         self.assertEqual(c.file(1, HIT, again), ("overloaded", 3))
 
 
+# A night whose r, over 8, is at an exact half at every place but one; r, and the mean in each edition.
+AT_HALVES = [-6, 9, 0, 5, -1, -1, -8]
+R_AT_HALVES = [-4, -12, 4, -24, 20, 20, 12]
+MEANS = {1: [-1, -2, 1, -3, 3, 3, 2], 2: [0, -2, 0, -3, 2, 2, 2]}
+
+
+class Editions(Case):
+    def test_the_means_of_each(self):
+        for edition, mean in MEANS.items():
+            c = meter.Campaign(3, capacity=2, edition=edition)
+            self.assertEqual(c.edition, edition)
+            c.enter(1, AT_HALVES)
+            c.withdraw(1)
+            c.file(1, RUN_IN + AT_HALVES, meter.judge(3, 3, AT_HALVES), 1)
+            self.assertEqual(c.response(), (R_AT_HALVES, mean))
+            self.assertEqual((c.summary(), c.counts()["standing"], c.edition), ((20 / 8, -24 / 8, -24 / 8), 1, edition))
+            self.assertEqual(meter.trend([(1, AT_HALVES)], 3, edition=edition), (mean, {}))
+
+    def test_it_is_1_where_none_is_chosen(self):
+        self.assertEqual((meter.HALVES_AWAY, meter.HALVES_TO_EVEN, meter.Campaign(3).edition), (1, 2, 1))
+        c = meter.Campaign(3)
+        c.enter(1, AT_HALVES)
+        self.assertEqual((c.response()[1], meter.trend([(1, AT_HALVES)], 3)[0]), (MEANS[1], MEANS[1]))
+
+    def test_only_the_mean_depends_on_it(self):
+        draw, differed = random.Random(1), 0
+        for _ in range(200):
+            one, two = (meter.Campaign(3, edition=edition) for edition in MEANS)
+            for day in range(1, 1 + draw.randrange(1, 5)):
+                night = meter.predict([draw.randrange(-9, 10) for _ in range(7)], 3)
+                self.assertEqual(one.enter(day, night), two.enter(day, night))
+            self.assertEqual((memory(one), one.counts(), one.summary()), (memory(two), two.counts(), two.summary()))
+            if one.summary() is None:
+                continue
+            (r, away), (r_again, to_even) = one.response(), two.response()
+            divisor = 8 * len(one.periods())
+            # Python rounds halves to even too.
+            self.assertEqual((r, to_even), (r_again, [round(v / divisor) for v in r]))
+            for v, a, e in zip(r, away, to_even):
+                at_odd_half = abs(v) % (2 * divisor) == divisor // 2
+                self.assertEqual(a - e, (1 if v > 0 else -1) if at_odd_half else 0)
+                differed += at_odd_half
+        self.assertGreater(differed, 50)
+
+    def test_no_other_can_be_started(self):
+        for edition in (0, 3, 257, 258, 2**32 - 1, 2**32 + 1, 2**32 + 2, -1):
+            self.assertEqual(self.refused(24, meter.Campaign, 3, 3, 2, edition), "24: edition not 1 or 2")
+            self.refused(24, meter.trend, [(1, AT_HALVES)], 3, 3, 2, edition)
+            for capacity in (0, 65):
+                self.refused(9, meter.Campaign, 3, 3, capacity, edition)
+            with self.assertRaises(meter.Refused) as met:
+                meter.Campaign(4, 15, 2, edition)
+            self.assertEqual((met.exception.number, met.exception.period), (4, 5))
+
+    def test_a_record_of_no_edition_is_15(self):
+        for edition in (0, 3, 2**32 - 1):
+            c = meter.Campaign(3, capacity=2)
+            c.enter(1, NIGHT)
+            before = memory(c)
+            c._numbers = (*c._numbers[:3], edition)
+            for call, *arguments in [
+                (c.enter, 2, NIGHT),
+                (c.enter, 2, RUN_IN + NIGHT, 1),
+                (c.file, 2, NIGHT, meter.Judged("kept")),
+                (c.file, 2, RUN_IN + NIGHT, meter.Judged("kept"), 1),
+                (c.withdraw, 1),
+                (c.counts,),
+                (c.response,),
+                (c.summary,),
+            ]:
+                self.refused(15, call, *arguments)
+            self.assertEqual(memory(c), before)
+
+    def test_it_stays_and_a_wrong_type_is_named(self):
+        c = meter.Campaign(3, edition=2)
+        with self.assertRaises(AttributeError):
+            c.edition = 1
+        for wrong in ("1", 1.0, None):
+            with self.assertRaisesRegex(TypeError, "^edition must be a whole number, not "):
+                meter.Campaign(3, edition=wrong)
+
+    def test_the_manual_has_both(self):
+        listing = []
+        for edition, words in [(1, ""), (2, ", edition=2")]:
+            mean, _ = meter.trend([(1, AT_HALVES)], 3, edition=edition)
+            listing += [f">>> meter.trend([(1, {AT_HALVES})], 3{words})[0]", repr(mean)]
+        listing += [">>> meter.Campaign(3, edition=3)", f"meter.Refused: {self.refused(24, meter.Campaign, 3, 3, 64, 3)}"]
+        self.assertIn("\n".join(["```", *listing, "```"]), (here.parent / "docs/MANUAL.md").read_text())
+
+
 class Room(Case):
     def test_every_order_gets_by_on_p_tags(self):
         for order in range(2, 17):
@@ -413,7 +503,7 @@ class Refusals(Case):
     def test_answers_in_words(self):
         program = "the program only: order above 9, slots above 8, or 5 to 16 periods"
         said = ["accepted", "verdict kept and C days stand", program, "periods not 1 to 16", "unknown", "verdict handed in is not what judging gives"]
-        self.assertEqual([meter.explain(n) for n in (0, 12, 17, 18, 19, 23)], said)
+        self.assertEqual([meter.explain(n) for n in (0, 12, 17, 18, 19, 23, 24, 25)], [*said, "edition not 1 or 2", "unknown"])
 
     def test_a_refusal_keeps_its_number_when_pickled(self):
         with self.assertRaises(meter.Refused) as met:

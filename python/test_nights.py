@@ -63,6 +63,10 @@ class Tables(unittest.TestCase):
             {
                 "capture": "standing 0, overloaded 1, dead 0, withdrawn 1; response lines that agree: 2",
                 "edges": "the log is bad at byte 861 of 865; what follows was not read",
+                "edition-3": "the start was refused 24: edition not 1 or 2; no night was read",
+                "edition-late": "the log is bad at byte 6 of 8; what follows was not read",
+                "halves": "standing 1, overloaded 0, dead 0, withdrawn 0; response lines that agree: 1",
+                "halves-even": "standing 0, overloaded 0, dead 0, withdrawn 1; response lines that agree: 2",
                 "order-1": "the start was refused 1: order below 2 or above 16; no night was read",
                 "order-10": "the start was refused 17: the program only: order above 9, slots above 8, or 5 to 16 periods; no night was read",
                 "order-17": "the start was refused 1: order below 2 or above 16; no night was read",
@@ -197,6 +201,62 @@ class Captures(unittest.TestCase):
             table(one, b"start 0\nenter 1 18 -\n")
 
 
+EDITION = {n: items.encode(items.EDITION, n) for n in (0, 1, 2, 3, 255)}
+ENTERED = START + make.log_from_text("day 1\nsamples 1 2 3 4 5 6 9\nenter\n")
+
+
+class Editions(unittest.TestCase):
+    def test_an_edition_that_is_one(self):
+        night = ENTERED[len(START) :] + items.encode(items.ASK)
+        rows = "".join(f"{k} 0 0\n" for k in range(7))
+        lines = f"enter 1 0 kept\nresponse 0 1 0 0 0\n{rows}".encode()
+        without = table(START + night, b"start 0\n" + lines)
+        for n in (1, 2):
+            self.assertEqual(table(START + EDITION[n] + night, b"start 0\nedition 0\n" + lines), without)
+            self.assertEqual(table(START + EDITION[n], b"start 0\nedition 0\n"), table(START, b"start 0\n"))
+
+    def test_an_edition_that_is_none(self):
+        for n in (0, 3, 255):
+            for behind in (b"", items.encode(items.ASK), EDITION[1], b"\x63"):
+                lines = table(START + EDITION[n] + behind, b"start 0\nedition 24\n")
+                ends = "the start was refused 24: edition not 1 or 2; no night was read"
+                self.assertEqual(lines[:2] + lines[-1:], ["not in the mean: 0", "in the mean: 0", ends])
+
+    def test_where_it_may_stand(self):
+        opened, asked = START + make.log_from_text("day 1\n"), START + items.encode(items.ASK)
+        withdrawn = START + make.log_from_text("withdraw 1\n")
+        for log, lines, at in [
+            (EDITION[1] + START, "", 0),
+            (START + EDITION[2] + EDITION[2], "start 0\nedition 0\n", len(START) + 2),
+            (opened + EDITION[2], "start 0\n", len(opened)),
+            (asked + EDITION[2], "start 0\nresponse 14 0 0 0 0\n", len(asked)),
+            (withdrawn + EDITION[2], "start 0\nwithdraw 1 13\n", len(withdrawn)),
+            (ENTERED + EDITION[1], "start 0\nenter 1 0 kept\n", len(ENTERED)),
+            (START + EDITION[2][:1], "start 0\n", len(START)),
+        ]:
+            self.assertIn(f"the log is bad at byte {at} of {len(log)}; what follows was not read", table(log, f"{lines}bad {at}\n".encode()))
+
+    def test_lines_that_cannot_be(self):
+        for n, answer, why in [
+            (1, 24, "edition 1 is answered with 0"),
+            (2, 24, "edition 2 is answered with 0"),
+            (2, 9, "edition 2 is answered with 0"),
+            (3, 0, "edition 3 is answered with 24"),
+            (0, 15, "edition 0 is answered with 24"),
+        ]:
+            with self.assertRaisesRegex(nights.Fault, f": {why}$", msg=(n, answer)):
+                table(START + EDITION[n], b"start 0\nedition %d\n" % answer)
+        for log, lines in [
+            (START + EDITION[2], b"start 0\n"),
+            (START, b"start 0\nedition 0\n"),
+            (START + EDITION[2], b"start 0\nedition 0 2\n"),
+            (START + EDITION[3], b"start 0\nedition 24\nbad 5\n"),
+            (START + EDITION[2], b"start 9\nedition 0\n"),
+        ]:
+            with self.assertRaises(nights.Fault, msg=lines):
+                table(log, lines)
+
+
 class OtherLines(unittest.TestCase):
     def refuses(self, log, lines):
         with self.assertRaises(nights.Fault, msg=lines):
@@ -222,7 +282,7 @@ class OtherLines(unittest.TestCase):
                     other = [b"%d" % (int(word) + (k == place)) if k else word for k, word in enumerate(words)]
                     self.refuses(log, b"".join(lines[:i] + [b" ".join(other) + b"\n"] + lines[i + 1 :]))
                     changed += 1
-        self.assertEqual(changed, 60)
+        self.assertEqual(changed, 80)
 
     def test_a_verdict_that_is_another(self):
         log, lines = (root / "examples/year.log").read_bytes(), (root / "examples/year.lines").read_bytes()

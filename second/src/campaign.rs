@@ -1,5 +1,6 @@
 //! A campaign's record, the memory lent to it, and its start.
 
+use crate::edition::check_edition;
 use crate::holding::holds_together;
 use crate::refusal::Refusal;
 use crate::register::{check_taps, period};
@@ -19,13 +20,14 @@ pub enum DayState {
     Withdrawn,
 }
 
-/// `days[d - 1]` is day d's state; `table[s]` is the day in slot s, or `FREE`; `periods[s]` is how many periods its night had, or
-/// `NO_PERIODS`.
+/// `edition` is that of the report rules, chosen at the start; `days[d - 1]` is day d's state; `table[s]` is the day in slot s, or `FREE`;
+/// `periods[s]` is how many periods its night had, or `NO_PERIODS`.
 #[derive(Clone, Debug, PartialEq, Eq)]
 pub struct Campaign {
     pub order: u32,
     pub taps: u32,
     pub slots: u32,
+    pub edition: u32,
     pub days: [DayState; DAYS],
     pub table: [u16; MOST_SLOTS],
     pub periods: [u8; MOST_SLOTS],
@@ -38,24 +40,26 @@ pub struct Lent {
     pub sums: Vec<i64>,
 }
 
-/// P, and refusals 1, 2, 3, 4, 9: what a start asks before any memory is looked at.
-pub fn check_start(order: u32, taps: u32, slots: u32) -> Result<usize, Refusal> {
+/// P, and refusals 1, 2, 3, 4, 9, 24: what a start asks before any memory is looked at.
+pub fn check_start(order: u32, taps: u32, slots: u32, edition: u32) -> Result<usize, Refusal> {
     let p = check_taps(order, taps)?;
     if !(1..=MOST_SLOTS as u32).contains(&slots) {
         return Err(Refusal::SlotCount);
     }
+    check_edition(edition)?;
     Ok(p)
 }
 
-/// Refusals 1, 2, 3, 4, 9, 6; the campaign itself tells P.
+/// Refusals 1, 2, 3, 4, 9, 24, 6; the campaign itself tells P.
 pub fn start(
     order: u32,
     taps: u32,
     slots: u32,
+    edition: u32,
     store: &mut [i32],
     sums: &mut [i64],
 ) -> Result<Campaign, Refusal> {
-    let p = check_start(order, taps, slots)?;
+    let p = check_start(order, taps, slots, edition)?;
     let store_length = slots as usize * p;
     if store.len() < store_length || sums.len() < p {
         return Err(Refusal::RoomTooShort);
@@ -67,6 +71,7 @@ pub fn start(
         order,
         taps,
         slots,
+        edition,
         days,
         table: [FREE; MOST_SLOTS],
         periods: [NO_PERIODS; MOST_SLOTS],

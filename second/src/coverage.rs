@@ -8,13 +8,24 @@ pub struct Coverage {
 }
 
 /// Everything a log can meet, by family.
-const EXPECTED: [(&str, &str); 13] = [
+const EXPECTED: [(&str, &str); 17] = [
     (
         "start",
         "0 order 2, 0 order 3, 0 order 4, 0 order 5, 0 order 6, 0 order 7, 0 order 8, \
          0 order 9, 1 below, 1 above, 2, 2 just, 3, 4 after 1, 4 dividing P, 4 not dividing P, \
          9, 9 at 0 slots, 9 at 65 slots, 17 for the order, 17 at order 10, 17 for the slots, \
          17 at 9 slots, 17 at 64 slots, 17 for both",
+    ),
+    (
+        "edition",
+        "0 of 1, 0 of 2, 24 of 0, 24 of 3, 24 of 4 to 254, 24 of 255",
+    ),
+    (
+        "behind",
+        "the end after a refused start, kind 8 after a refused start, other after a refused start, \
+         the end after an accepted start, kind 8 after an accepted start, other after an accepted start, \
+         the end after a refused edition, kind 8 after a refused edition, other after a refused edition, \
+         the end after an accepted edition, kind 8 after an accepted edition, other after an accepted edition",
     ),
     (
         "enter",
@@ -84,15 +95,29 @@ const EXPECTED: [(&str, &str); 13] = [
         "0 of 1, 0 of 2, 0 of 3, 0 of 4, 0 of 5, 0 of 6, 0 of 7, 0 of 8, half up, half down, 14",
     ),
     (
+        "asked",
+        "0 in 1, 0 in 1 named, 0 in 2, 14 in 1, 14 in 1 named, 14 in 2",
+    ),
+    (
+        "halves",
+        "above 0 apart in 1, above 0 alike in 1, below 0 apart in 1, below 0 alike in 1, none in 1, \
+         of several periods apart in 1, after a withdrawal apart in 1, \
+         above 0 apart in 1 named, above 0 alike in 1 named, below 0 apart in 1 named, below 0 alike in 1 named, \
+         none in 1 named, of several periods apart in 1 named, after a withdrawal apart in 1 named, \
+         above 0 apart in 2, above 0 alike in 2, below 0 apart in 2, below 0 alike in 2, none in 2, \
+         of several periods apart in 2, after a withdrawal apart in 2",
+    ),
+    (
         "total",
         "as many as days, a power of two, no power of two, the most, half up, half down",
     ),
     (
         "bad",
         "no input, unknown first, unknown in a day, unknown outside, kind 2 first, \
-         kind 3 first, kind 4 first, kind 5 first, kind 6 first, kind 7 first, kind 1 in a day, \
+         kind 3 first, kind 4 first, kind 5 first, kind 6 first, kind 7 first, kind 8 first, kind 1 in a day, \
          kind 2 in a day, kind 5 in a day, kind 6 in a day, kind 7 in a day, kind 1 outside, kind 3 outside, \
-         kind 4 outside, cut kind 1, cut kind 2, cut kind 3, cut kind 5, cut kind 7, beyond P, beyond m 0, \
+         kind 4 outside, kind 8 after 2, kind 8 after 3, kind 8 after 4, kind 8 after 5, kind 8 after 6, kind 8 after 7, \
+         kind 8 after 8, cut kind 1, cut kind 2, cut kind 3, cut kind 5, cut kind 7, cut kind 8, beyond P, beyond m 0, \
          beyond m 1 to 4, beyond m 5 to 16, beyond m 17 to 254, beyond m 255, end in open day, end in open capture",
     ),
 ];

@@ -2,13 +2,13 @@
 
 use crate::make::Pieces;
 use crate::night::capture_length;
-use crate::record::{encode, Record, ASK, CAPTURE, ENTER, OPEN, SAMPLE, START, WITHDRAW};
+use crate::record::{encode, Record, ASK, CAPTURE, EDITION, ENTER, OPEN, SAMPLE, START, WITHDRAW};
 use crate::register::period;
 use crate::rng::Rng;
 
 /// The log with one sort of damage; a flipped byte may leave it whole.
 pub fn damaged(rng: &mut Rng, mut pieces: Pieces) -> Pieces {
-    match rng.below(20) {
+    match rng.below(27) {
         0 => return vec![cut_anywhere(rng, pieces.concat())],
         1 => return vec![flipped(rng, pieces.concat())],
         2 | 3 => cut_body(rng, &mut pieces),
@@ -16,16 +16,18 @@ pub fn damaged(rng: &mut Rng, mut pieces: Pieces) -> Pieces {
         5..=8 => insert(rng, &mut pieces, any_record),
         9 => sample_beyond_p(rng, &mut pieces),
         10..=12 => sample_beyond_a_capture(rng, &mut pieces),
-        13 => end_in_open_day(rng, &mut pieces),
-        14 => drop(pieces.remove(rng.below(pieces.len()))),
-        15..=17 => {
+        13 | 14 => end_in_open_day(rng, &mut pieces),
+        15 => drop(pieces.remove(rng.below(pieces.len()))),
+        16..=19 => {
             pieces[0] = if rng.once_in(4) {
                 unknown(rng)
             } else {
                 any_record(rng)
             }
         }
-        18 => two_exchanged(rng, &mut pieces),
+        20 => two_exchanged(rng, &mut pieces),
+        21..=23 => misplaced_edition(rng, &mut pieces),
+        24 | 25 => end_after_edition(rng, &mut pieces),
         _ => pieces.push((0..rng.below(9)).map(|_| rng.byte()).collect()),
     }
     pieces
@@ -46,7 +48,7 @@ fn flipped(rng: &mut Rng, mut log: Vec<u8>) -> Vec<u8> {
 
 /// Ends the log inside the body of a record, its kind byte still there.
 fn cut_body(rng: &mut Rng, pieces: &mut Pieces) {
-    let kind = rng.pick(&[START, OPEN, SAMPLE, WITHDRAW, CAPTURE]);
+    let kind = rng.pick(&[START, OPEN, SAMPLE, WITHDRAW, CAPTURE, EDITION]);
     let of_kind = places(pieces, |piece| piece[0] == kind);
     let place = if of_kind.is_empty() {
         0
@@ -84,13 +86,13 @@ fn insert(rng: &mut Rng, pieces: &mut Pieces, piece: fn(&mut Rng) -> Vec<u8>) {
 }
 
 fn unknown(rng: &mut Rng) -> Vec<u8> {
-    let mut piece = vec![rng.pick(&[0, 8, 9, 49, 128, 255])];
+    let mut piece = vec![rng.pick(&[0, 9, 10, 49, 128, 255])];
     piece.extend((0..rng.below(4)).map(|_| rng.byte()));
     piece
 }
 
 fn any_record(rng: &mut Rng) -> Vec<u8> {
-    encode(match rng.below(7) {
+    encode(match rng.below(8) {
         0 => Record::Start {
             order: 3,
             taps: 3,
@@ -101,11 +103,39 @@ fn any_record(rng: &mut Rng) -> Vec<u8> {
         3 => Record::Enter,
         4 => Record::Withdraw(rng.between(1, 366) as u16),
         5 => Record::Ask,
+        6 => Record::Edition(any_edition(rng)),
         _ => Record::Capture {
             day: rng.between(1, 366) as u16,
             m: rng.pick(&[0, 1, 4, 5, 255]),
         },
     })
+}
+
+fn any_edition(rng: &mut Rng) -> u8 {
+    rng.pick(&[0, 1, 1, 2, 2, 3, 255])
+}
+
+/// An edition at the very front, or directly behind a record of any kind but a start; behind another edition also where the log has none.
+fn misplaced_edition(rng: &mut Rng, pieces: &mut Pieces) {
+    let kind = rng.pick(&[START, OPEN, SAMPLE, ENTER, WITHDRAW, ASK, CAPTURE, EDITION]);
+    if kind == EDITION && pieces[1][0] != EDITION {
+        pieces.insert(1, encode(Record::Edition(2)));
+    }
+    let of_kind = places(pieces, |piece| piece[0] == kind);
+    let place = match kind {
+        START => 0,
+        _ if of_kind.is_empty() => pieces.len(),
+        _ => rng.pick(&of_kind) + 1,
+    };
+    let edition = encode(Record::Edition(any_edition(rng)));
+    pieces.insert(place, edition);
+}
+
+/// The start and an edition, whole, cut or not even begun.
+fn end_after_edition(rng: &mut Rng, pieces: &mut Pieces) {
+    let mut edition = encode(Record::Edition(any_edition(rng)));
+    edition.truncate(rng.pick(&[0, 1, 2, 2]));
+    pieces.splice(1.., [edition]);
 }
 
 /// More samples just before an entry; now and then the log ends there with a lone kind byte.

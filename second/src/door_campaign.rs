@@ -5,6 +5,7 @@ use crate::door::{any_order, any_taps, filled, near, near_tags, period_of, with_
 use crate::door_held::{told, Held};
 use crate::door_judging::{judge_and_file, Drawn};
 use crate::door_nights::{any_day, any_periods, capture, one_period};
+use crate::edition::{FIRST, SECOND};
 use crate::night::Night;
 use crate::reading::Summary;
 use crate::refusal::{number, Refusal};
@@ -28,17 +29,17 @@ pub fn campaign_case(rng: &mut Rng) -> Vec<String> {
         _ => 4,
     };
     for _ in 0..2 + rng.below(most_steps) {
-        let what = rng.below(19);
+        let what = rng.below(22);
         let damage = held.damage(rng);
         let (answer, line) = match what {
             0..=3 => enter_line(&mut held, rng),
             4..=7 => capture_line(&mut held, rng),
             8 | 9 => withdraw_line(&mut held, rng),
             10 => counts_line(&held),
-            11 => response_line(&held, rng),
-            12 => summary_line(&held, rng),
-            13..=15 => judge_and_file(&mut held, rng, Drawn::one_period, &mut lines),
-            _ => judge_and_file(&mut held, rng, Drawn::capture, &mut lines),
+            11 => summary_line(&held, rng),
+            12..=14 => judge_and_file(&mut held, rng, Drawn::one_period, &mut lines),
+            15..=17 => judge_and_file(&mut held, rng, Drawn::capture, &mut lines),
+            _ => response_lines(&held, rng, &mut lines),
         };
         lines.push(line);
         if answer == Refusal::DoesNotHoldTogether.number() {
@@ -53,12 +54,14 @@ fn any_campaign(rng: &mut Rng) -> Held {
     let taps = campaign_taps(rng, order);
     let p = period_of(order);
     let count = any_count(rng, order);
+    let edition = any_edition(rng);
     let store = filled(near(rng, count.max(1) as usize * p));
     let sums = filled(near(rng, p));
     Held {
         order,
         taps,
         count,
+        edition,
         days: filled(table_length(rng, DAYS)),
         slots: filled(table_length(rng, MOST_SLOTS)),
         periods: filled(table_length(rng, MOST_SLOTS)),
@@ -82,6 +85,15 @@ fn any_count(rng: &mut Rng, order: u32) -> u32 {
         0 if order < LONG_ORDER => rng.pick(&[0, 65, 64]),
         1..=5 => 1,
         _ => few,
+    }
+}
+
+/// One in ten is none, and of these two have the lowest byte of one.
+fn any_edition(rng: &mut Rng) -> u32 {
+    match rng.below(10) {
+        0 => rng.pick(&[0, 3, 257, 65_538, u32::MAX]),
+        1..=4 => FIRST,
+        _ => SECOND,
     }
 }
 
@@ -150,23 +162,42 @@ impl Lists {
         }
     }
 
+    /// The answer of a response, and what it leaves in every list.
+    fn response(&mut self, held: &Held) -> (u8, String) {
+        let room = &mut Room {
+            wide: &mut self.wide,
+            tags: &mut self.tags,
+        };
+        let (r, means) = (&mut self.r, &mut self.means);
+        let record = held.record();
+        let answer = number(&record.and_then(|c| c.response(&held.lent, r, means, room)));
+        let outputs = format!("{} {}", digest_of(&self.r), digest_of(&self.means));
+        (
+            answer,
+            format!("{answer} {outputs} {}", self.room_digests()),
+        )
+    }
+
     fn room_digests(&self) -> String {
         format!("{} {}", digest_of(&self.wide), digest_of(&self.tags))
     }
 }
 
-fn response_line(held: &Held, rng: &mut Rng) -> (u8, String) {
+/// A response; where it is accepted, the same of the record in the other edition, into the same lists.
+fn response_lines(held: &Held, rng: &mut Rng, lines: &mut Vec<String>) -> (u8, String) {
     let mut lists = Lists::drawn(rng, period_of(held.order));
-    let room = &mut Room {
-        wide: &mut lists.wide,
-        tags: &mut lists.tags,
+    let (answer, told) = lists.response(held);
+    let line = format!("response {told}");
+    if answer != 0 {
+        return (answer, line);
+    }
+    lines.push(line);
+    let other = Held {
+        edition: held.other_edition(),
+        ..held.clone()
     };
-    let (r, means) = (&mut lists.r, &mut lists.means);
-    let record = held.record();
-    let answer = number(&record.and_then(|c| c.response(&held.lent, r, means, room)));
-    let outputs = format!("{} {}", digest_of(&lists.r), digest_of(&lists.means));
-    let line = format!("response {answer} {outputs} {}", lists.room_digests());
-    (answer, line)
+    let (answer, told) = lists.response(&other);
+    (answer, format!("other edition {told}"))
 }
 
 fn summary_line(held: &Held, rng: &mut Rng) -> (u8, String) {

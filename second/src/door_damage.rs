@@ -26,6 +26,7 @@ pub struct Damage {
     sample_was: i32,
     sum_was: i64,
     count_was: u32,
+    edition_was: u32,
 }
 
 /// Those from `TO_AN_EDGE` to `TO_ONE_PERIOD` strike a used slot; `IN_THE_FIRST_C` strikes one of the first C, which may be free.
@@ -35,8 +36,14 @@ const TO_TOO_MANY: usize = 7;
 const TO_ONE_PERIOD: usize = 8;
 const ANY_PERIODS: usize = 9;
 const IN_THE_FIRST_C: usize = 10;
+/// This one leaves a record that holds together.
+const OTHER_EDITION: usize = 11;
+const NO_EDITION: usize = 12;
 /// So many kinds of damage there are; this one is none at all.
-const KINDS: usize = 11;
+const KINDS: usize = 13;
+
+/// The lowest byte of the third is that of an edition.
+const NO_EDITIONS: [u32; 4] = [0, 3, 258, u32::MAX];
 
 impl Held {
     /// The first used slot from `slot` on that the periods reach, going round.
@@ -93,6 +100,8 @@ impl Held {
             TO_TOO_MANY => self.periods[places.period] = MOST_PERIODS as u8 + 1,
             TO_ONE_PERIOD => self.periods[places.period] = 1,
             ANY_PERIODS | IN_THE_FIRST_C => self.periods[places.period] += 1,
+            OTHER_EDITION => self.edition = self.other_edition(),
+            NO_EDITION => self.edition = NO_EDITIONS[edge],
             _ => {}
         }
         damage
@@ -122,6 +131,7 @@ impl Held {
             sample_was: self.lent.store[places.sample],
             sum_was: self.lent.sums[places.sum],
             count_was: self.count,
+            edition_was: self.edition,
         }
     }
 
@@ -133,5 +143,6 @@ impl Held {
         self.lent.store[places.sample] = damage.sample_was;
         self.lent.sums[places.sum] = damage.sum_was;
         self.count = damage.count_was;
+        self.edition = damage.edition_was;
     }
 }

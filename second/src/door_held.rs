@@ -13,6 +13,7 @@ pub struct Held {
     pub order: u32,
     pub taps: u32,
     pub count: u32,
+    pub edition: u32,
     pub days: Vec<u8>,
     pub slots: Vec<u16>,
     pub periods: Vec<u8>,
@@ -58,6 +59,7 @@ impl Held {
             order: self.order,
             taps: self.taps,
             slots: self.count,
+            edition: self.edition,
             days: days.try_into().expect("366 of them"),
             table: self.slots[..MOST_SLOTS].try_into().expect("64 of them"),
             periods: self.periods[..MOST_SLOTS].try_into().expect("64 of them"),
@@ -74,14 +76,20 @@ impl Held {
 
     /// A start lends no record yet: a short table is room too short.
     pub fn start(&mut self) -> Result<usize, Refusal> {
-        let p = campaign::check_start(self.order, self.taps, self.count)?;
+        let (order, taps, count, edition) = (self.order, self.taps, self.count, self.edition);
+        let p = campaign::check_start(order, taps, count, edition)?;
         if !self.tables_long() {
             return Err(Refusal::RoomTooShort);
         }
         let Lent { store, sums } = &mut self.lent;
-        let record = campaign::start(self.order, self.taps, self.count, store, sums)?;
+        let record = campaign::start(order, taps, count, edition, store, sums)?;
         self.write_back(&record);
         Ok(p)
+    }
+
+    /// 2 for 1 and 1 for 2; for any other number one that is no edition either.
+    pub fn other_edition(&self) -> u32 {
+        3u32.wrapping_sub(self.edition)
     }
 
     pub fn enter(&mut self, day: u16, night: Night) -> Verdict {

@@ -1,13 +1,16 @@
 //! When a record holds together with the memory lent to it.
 
 use crate::campaign::{Campaign, DayState, Lent, DAYS, FREE, MOST_SLOTS, NO_PERIODS};
+use crate::edition::check_edition;
 use crate::night::check_periods;
 use crate::register::{check_taps, period};
 use crate::response::{HIGHEST, LOWEST};
 
 /// Every day state is one of the five by its type; the rest is looked at here.
 pub fn holds_together(campaign: &Campaign, lent: &Lent) -> bool {
-    if check_taps(campaign.order, campaign.taps).is_err() {
+    if check_taps(campaign.order, campaign.taps).is_err()
+        || check_edition(campaign.edition).is_err()
+    {
         return false;
     }
     let slots = campaign.slots as usize;

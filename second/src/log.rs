@@ -1,6 +1,7 @@
 //! Reading a log: each record in turn, and every way in which one is bad.
 
 use crate::met;
+use crate::met_edition;
 use crate::record::{body_length, decode, Record, SAMPLE};
 use crate::run::{After, Answer, Run};
 
@@ -11,10 +12,14 @@ pub fn answer(input: &[u8]) -> Answer {
     while at < input.len() {
         match next_record(&run, &input[at..]) {
             Ok((record, length)) => {
-                if let After::Stop = run.carry_out(record) {
+                at += length;
+                let after = run.carry_out(record);
+                run.answer
+                    .met
+                    .extend(met_edition::behind(record, &after, &input[at..]));
+                if let After::Stop = after {
                     return run.answer;
                 }
-                at += length;
             }
             Err(why) => return bad(run, &why, at),
         }
@@ -35,7 +40,7 @@ fn next_record(run: &Run, rest: &[u8]) -> Result<(Record, usize), String> {
         return Err(format!("unknown {}", run.place()));
     };
     if !run.allows(kind) {
-        return Err(format!("kind {kind} {}", run.place()));
+        return Err(run.misplaced(kind));
     }
     if let (SAMPLE, Some(opened)) = (kind, run.full_day()) {
         return Err(met::beyond(opened));

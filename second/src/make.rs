@@ -1,8 +1,9 @@
-//! Random logs: whole campaigns, refused starts, damaged ones and garbage.
+//! Random logs: whole campaigns, refused starts and editions, damaged ones and garbage.
 
 use crate::campaign::DAYS;
 use crate::captures::{capture, kept_capture, Capture};
 use crate::damage::damaged;
+use crate::edition::{FIRST, SECOND};
 use crate::open_day::PROGRAM_PERIODS;
 use crate::record::{encode, Record};
 use crate::recordings::{kept, recording};
@@ -16,7 +17,7 @@ pub type Pieces = Vec<Vec<u8>>;
 /// Log `number` of the logs that belong to `seed`.
 pub fn log(seed: u64, number: u64) -> Vec<u8> {
     let rng = &mut Rng::for_log(seed, number);
-    match rng.below(40) {
+    match rng.below(42) {
         0..=9 => refused_start(rng),
         10..=14 => campaign(rng, 9),
         15 => whole_year(rng),
@@ -25,6 +26,7 @@ pub fn log(seed: u64, number: u64) -> Vec<u8> {
             damaged(rng, pieces)
         }
         38 => vec![garbage(rng)],
+        39 | 40 => refused_edition(rng),
         _ => vec![],
     }
     .concat()
@@ -35,7 +37,7 @@ fn garbage(rng: &mut Rng) -> Vec<u8> {
     let length = rng.below(200);
     let byte = |rng: &mut Rng| {
         if small_kinds {
-            rng.below(9) as u8
+            rng.below(10) as u8
         } else {
             rng.byte()
         }
@@ -91,11 +93,42 @@ fn refused_start(rng: &mut Rng) -> Pieces {
         _ => rng.pick(&[0, 1, 8, 9, 64, 65, too_many]),
     };
     let mut pieces = vec![start(order as u8, taps as u16, slots)];
-    if rng.once_in(3) {
-        pieces.push(encode(Record::Ask));
-        pieces.push(garbage(rng));
-    }
+    pieces.extend(unread(rng));
     pieces
+}
+
+/// What stands behind a refusal, which nobody looks at: most often nothing.
+fn unread(rng: &mut Rng) -> Pieces {
+    match rng.below(6) {
+        0 => vec![encode(Record::Ask), garbage(rng)],
+        1 => vec![edition(SECOND), garbage(rng)],
+        _ => vec![],
+    }
+}
+
+fn edition(edition: u32) -> Vec<u8> {
+    encode(Record::Edition(edition as u8))
+}
+
+/// An accepted start and an edition that is none.
+fn refused_edition(rng: &mut Rng) -> Pieces {
+    let order = rng.between(2, 9) as u32;
+    let taps = accepted_taps(rng, order);
+    let slots = rng.between(1, 8) as u8;
+    let above = rng.between(4, 254) as u32;
+    let none = rng.pick(&[0, 3, above, 255]);
+    let mut pieces = vec![start(order as u8, taps as u16, slots), edition(none)];
+    pieces.extend(unread(rng));
+    pieces
+}
+
+/// Half of the campaigns are in an edition that the log names, most often the second.
+fn named_edition(rng: &mut Rng) -> Option<Vec<u8>> {
+    match rng.below(8) {
+        0..=3 => None,
+        4 => Some(edition(FIRST)),
+        _ => Some(edition(SECOND)),
+    }
 }
 
 /// An open day, its samples and its entry.
@@ -133,6 +166,7 @@ fn campaign(rng: &mut Rng, highest_order: u32) -> Pieces {
     few.extend([1, 366]);
     let most_calls = if order < 6 { 60 } else { 24 };
     let mut pieces = vec![start(order as u8, taps as u16, slots)];
+    pieces.extend(named_edition(rng));
     if rng.once_in(2) {
         pieces.extend(full_slots(rng, order, taps, &few[..slots as usize]));
     }
@@ -166,6 +200,7 @@ fn full_slots(rng: &mut Rng, order: u32, taps: u32, days: &[u16]) -> Pieces {
 fn whole_year(rng: &mut Rng) -> Pieces {
     let slots = rng.between(1, 8) as u8;
     let mut pieces = vec![start(2, 3, slots)];
+    pieces.extend(named_edition(rng));
     for day in 1..=DAYS as u16 {
         if rng.once_in(3) {
             pieces.extend(captured(day, &capture(rng, 2, 3)));

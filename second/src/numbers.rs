@@ -1,8 +1,9 @@
 //! The numbers two programs can be held to, by direct formulas.
 
+use crate::edition::{mean, Edition, FIRST, SECOND};
 use crate::refusal::{number, told_period, Refusal};
 use crate::register::{check_taps, default_taps, period};
-use crate::response::{mean, one_recording, predict, HIGHEST, LOWEST};
+use crate::response::{one_recording, predict, HIGHEST, LOWEST};
 use crate::room::Room;
 use std::io::{self, Write};
 
@@ -41,18 +42,7 @@ pub fn print(out: &mut impl Write) -> io::Result<()> {
     }
     defaults(out)?;
     recordings_and_samples(out)?;
-    for (r, d) in [
-        (4, 8),
-        (-4, 8),
-        (-10, 8),
-        (12, 8),
-        (-12, 8),
-        (3, 8),
-        (-3, 8),
-        (0, 8),
-    ] {
-        writeln!(out, "mean {r} {d} {}", mean(r, d))?;
-    }
+    means(out)?;
     let too_loud = [HIGHEST, HIGHEST, 0, 0, 0, 0, 0];
     writeln!(
         out,
@@ -130,6 +120,17 @@ fn recordings_and_samples(out: &mut impl Write) -> io::Result<()> {
     for sample in [8_388_606, 8_388_607, 8_388_608, -8_388_608, -8_388_609] {
         let answer = number(&response_of(3, 3, &[sample, 0, 0, 0, 0, 0, 0]));
         writeln!(out, "sample {sample} {answer}")?;
+    }
+    Ok(())
+}
+
+/// Exact halves on both sides of zero, and others, by both editions.
+pub fn means(out: &mut impl Write) -> io::Result<()> {
+    let d = 8;
+    for (number, edition) in [(FIRST, Edition::First), (SECOND, Edition::Second)] {
+        for r in [4, -4, -10, 12, -12, 3, -3, 0] {
+            writeln!(out, "mean {number} {r} {d} {}", mean(edition, r, d))?;
+        }
     }
     Ok(())
 }

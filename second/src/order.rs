@@ -1,8 +1,9 @@
-//! Document 01's "Order of checks", with 18 and 23 of requests 1 and 5 of document 02: for each two checks that stand side by side in a call's list, an input to which both apply,
-//! so that the answer tells which comes first. `door/order.c` makes the same calls through the C door.
+//! Document 01's "Order of checks", with 18, 23 and 24 of requests 1, 5 and 9 of document 02: for each two checks that stand side by side in
+//! a call's list, an input to which both apply, so that the answer tells which comes first. `door/order.c` makes the same calls through the C door.
 
 use crate::campaign::start;
 use crate::door::with_period;
+use crate::edition::FIRST;
 use crate::order_campaign;
 use crate::player::Player;
 use crate::refusal::{number, Refusal};
@@ -16,10 +17,16 @@ pub const P: usize = 3;
 pub const ROOM: usize = P + 1;
 pub const TAGS: usize = P;
 
+/// Those on either side of the editions there are.
+pub const NEAR_EDITIONS: [u32; 2] = [0, 3];
+/// With some whose lowest byte is that of an edition.
+const NO_EDITIONS: [u32; 6] = [0, 3, 257, 258, 65_537, u32::MAX];
+
 /// Prints a line for each case.
 pub fn print(out: &mut impl Write) -> io::Result<()> {
     let mut lines = registers();
     lines.extend(recordings());
+    lines.extend(starts());
     lines.extend(order_campaign::lines());
     for line in lines {
         writeln!(out, "{line}")?;
@@ -67,9 +74,11 @@ fn predicted_in_room(order: u32, taps: u32, first: i32, n: usize, lengths: [usiz
     predict_in_room(order, taps, h, &mut vec![0; out], &mut vec![1; wide])
 }
 
-fn started(order: u32, taps: u32, count: u32, store: usize, sums: usize) -> Told {
+/// A start with a store and sums of these lengths.
+fn started(order: u32, taps: u32, count: u32, edition: u32, lengths: [usize; 2]) -> Told {
+    let [store, sums] = lengths;
     let (store, sums) = (&mut vec![0; store], &mut vec![0; sums]);
-    start(order, taps, count, store, sums).map(|campaign| campaign.p())
+    start(order, taps, count, edition, store, sums).map(|campaign| campaign.p())
 }
 
 /// A block is refused for the same causes as a step.
@@ -103,7 +112,7 @@ fn registers() -> Vec<String> {
             "predict in a room",
             predicted_in_room(order, taps, 1, P, [P, ROOM]),
         );
-        add("start", started(order, taps, 1, P, P));
+        add("start", started(order, taps, 1, FIRST, [P, P]));
         if checks != "3 before 4" {
             let made = number(&Player::new(order, taps));
             lines.push(line("new player", checks, made));
@@ -173,8 +182,26 @@ fn recordings() -> Vec<String> {
         "7 before 8",
         predicted_in_room(2, 3, 8_388_608, P, [P, ROOM]),
     );
-    add("start", "4 before 9", started(2, 1, 0, P, P));
-    add("start", "9 before 6", started(2, 3, 65, 64 * P, P));
-    add("start", "9 before 6", started(2, 3, 0, P, P - 1));
+    lines
+}
+
+/// The slot count, the edition and the room of a start.
+fn starts() -> Vec<String> {
+    let mut lines = vec![];
+    let mut add = |checks, answer| lines.push(told_line("start", checks, answer));
+    add("4 before 9", started(2, 1, 0, FIRST, [P, P]));
+    add("9 before 6", started(2, 3, 65, FIRST, [64 * P, P]));
+    add("9 before 6", started(2, 3, 0, FIRST, [P, P - 1]));
+    for edition in NEAR_EDITIONS {
+        add("9 before 24", started(2, 3, 0, edition, [P, P]));
+        add("9 before 24", started(2, 3, 65, edition, [65 * P, P]));
+    }
+    for edition in NEAR_EDITIONS {
+        add("24 before 6", started(2, 3, 1, edition, [P - 1, P]));
+        add("24 before 6", started(2, 3, 1, edition, [P, P - 1]));
+    }
+    for edition in NO_EDITIONS {
+        add("24 alone", started(2, 3, 1, edition, [P, P]));
+    }
     lines
 }

@@ -4,9 +4,10 @@ use crate::campaign::{Lent, DAYS, MOST_SLOTS, NO_PERIODS};
 use crate::door::with_period;
 use crate::door_held::{told, Held};
 use crate::door_judging::shown_by;
+use crate::edition::FIRST;
 use crate::entering::Verdict;
 use crate::night::{Night, MOST_PERIODS};
-use crate::order::{line, P, ROOM, TAGS};
+use crate::order::{line, NEAR_EDITIONS, P, ROOM, TAGS};
 use crate::order_filing;
 use crate::order_shapes::{beyond, one, plain, two, Shape, BEYOND, KEPT, WHOLE};
 use crate::reading::Summary;
@@ -32,10 +33,12 @@ pub enum Damage {
     ShortDays,
     ShortSlots,
     ShortPeriods,
+    EditionBelow,
+    EditionAbove,
 }
 
 impl Damage {
-    pub const ALL: [Damage; 10] = [
+    pub const ALL: [Damage; 12] = [
         Damage::Sum,
         Damage::FreePeriods,
         Damage::PastCPeriods,
@@ -46,6 +49,8 @@ impl Damage {
         Damage::ShortDays,
         Damage::ShortSlots,
         Damage::ShortPeriods,
+        Damage::EditionBelow,
+        Damage::EditionAbove,
     ];
 
     pub fn stands(self) -> bool {
@@ -67,6 +72,8 @@ impl Damage {
             Damage::ShortDays => held.days.truncate(DAYS - 1),
             Damage::ShortSlots => held.slots.truncate(MOST_SLOTS - 1),
             Damage::ShortPeriods => held.periods.truncate(MOST_SLOTS - 1),
+            Damage::EditionBelow => held.edition = NEAR_EDITIONS[0],
+            Damage::EditionAbove => held.edition = NEAR_EDITIONS[1],
         }
     }
 }
@@ -94,6 +101,7 @@ fn held(count: u32) -> Held {
         order: 2,
         taps: 3,
         count,
+        edition: FIRST,
         days: vec![0; DAYS],
         slots: vec![0; MOST_SLOTS],
         periods: vec![0; MOST_SLOTS],
@@ -119,17 +127,29 @@ pub fn begun(damage: Damage, standing: bool) -> Held {
     held
 }
 
-/// Each table too short, at a slot count that is none.
+/// Each table too short, at a slot count that is none, at editions that are none, and alone.
 fn starts() -> Vec<String> {
-    let shorts = [Damage::ShortDays, Damage::ShortSlots, Damage::ShortPeriods];
-    let started = |(damage, count): (Damage, u32)| {
-        let mut held = held(count);
+    let [below, above] = NEAR_EDITIONS;
+    [
+        ("9 before 6", 0, FIRST),
+        ("24 before 6", 1, below),
+        ("24 before 6", 1, above),
+        ("6 alone", 1, FIRST),
+    ]
+    .into_iter()
+    .flat_map(|(checks, count, edition)| started_short(checks, count, edition))
+    .collect()
+}
+
+fn started_short(checks: &str, count: u32, edition: u32) -> [String; 3] {
+    [Damage::ShortDays, Damage::ShortSlots, Damage::ShortPeriods].map(|damage| {
+        let mut held = Held {
+            edition,
+            ..held(count)
+        };
         damage.strike(&mut held);
-        with_period(&held.start())
-    };
-    let both = shorts.map(|damage| format!("start: 9 before 6: {}", started((damage, 0))));
-    let alone = shorts.map(|damage| format!("start: 6 alone: {}", started((damage, 1))));
-    [both, alone].concat()
+        format!("start: {checks}: {}", with_period(&held.start()))
+    })
 }
 
 /// The answer, and the state and value that the verdict gives, 9 and 9 where it gives none.

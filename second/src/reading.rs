@@ -1,8 +1,9 @@
 //! What a campaign tells: its counts, its response, its summary.
 
 use crate::campaign::{Campaign, DayState, Lent};
+use crate::edition::{check_edition, mean};
 use crate::refusal::Refusal;
-use crate::response::{direct_response, mean};
+use crate::response::direct_response;
 use crate::room::Room;
 
 #[derive(Clone, Copy, Debug, PartialEq, Eq)]
@@ -46,7 +47,7 @@ impl Campaign {
         (self.p() as i64 + 1) * self.periods_standing()
     }
 
-    /// Writes r and the means. Refusals 15, 6, 14.
+    /// Writes r and the means, these by the campaign's edition. Refusals 15, 6, 14.
     pub fn response(
         &self,
         lent: &Lent,
@@ -63,10 +64,11 @@ impl Campaign {
         if self.days_in(DayState::Standing) == 0 {
             return Err(Refusal::NothingStanding);
         }
+        let edition = check_edition(self.edition).expect("a record that holds together has one");
         r[..p].copy_from_slice(&direct_response(self.order, self.taps, &lent.sums[..p]));
         for (place, &r) in means.iter_mut().zip(&r[..p]) {
             // No standing sample is at a rail, so the mean is a sample.
-            *place = mean(r, self.divisor()) as i32;
+            *place = mean(edition, r, self.divisor()) as i32;
         }
         room.clear(p);
         Ok(())

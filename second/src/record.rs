@@ -17,6 +17,8 @@ pub enum Record {
         day: u16,
         m: u8,
     },
+    /// The edition of the report rules.
+    Edition(u8),
 }
 
 pub const START: u8 = 1;
@@ -26,6 +28,7 @@ pub const ENTER: u8 = 4;
 pub const WITHDRAW: u8 = 5;
 pub const ASK: u8 = 6;
 pub const CAPTURE: u8 = 7;
+pub const EDITION: u8 = 8;
 
 /// The length of a kind's body, or none for an unknown kind.
 pub fn body_length(kind: u8) -> Option<usize> {
@@ -33,6 +36,7 @@ pub fn body_length(kind: u8) -> Option<usize> {
         START => Some(4),
         OPEN | WITHDRAW => Some(2),
         SAMPLE | CAPTURE => Some(3),
+        EDITION => Some(1),
         ENTER | ASK => Some(0),
         _ => None,
     }
@@ -57,6 +61,7 @@ pub fn decode(kind: u8, body: &[u8]) -> Record {
             day: day(),
             m: body[2],
         },
+        EDITION => Record::Edition(body[0]),
         _ => panic!("kind {kind} has no record"),
     }
 }
@@ -76,7 +81,12 @@ pub fn encode(record: Record) -> Vec<u8> {
         Record::Withdraw(day) => with_day(WITHDRAW, day),
         Record::Ask => vec![ASK],
         Record::Capture { day, m } => [with_day(CAPTURE, day), vec![m]].concat(),
+        Record::Edition(edition) => vec![EDITION, edition],
     }
+}
+
+pub fn kind_of(record: Record) -> u8 {
+    encode(record)[0]
 }
 
 fn with_day(kind: u8, day: u16) -> Vec<u8> {

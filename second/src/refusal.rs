@@ -25,6 +25,7 @@ pub enum Refusal {
     PeriodsOutOfRange,
     /// The verdict handed to filing is not what judging gives.
     NotAsJudged,
+    NoSuchEdition,
 }
 
 impl Refusal {
@@ -49,6 +50,7 @@ impl Refusal {
             Refusal::ProgramLimit => 17,
             Refusal::PeriodsOutOfRange => 18,
             Refusal::NotAsJudged => 23,
+            Refusal::NoSuchEdition => 24,
         }
     }
 }

@@ -1,4 +1,4 @@
-//! One recording turned into a response, a predicted recording, the mean.
+//! One recording turned into a response, and a predicted recording.
 
 use crate::refusal::Refusal;
 use crate::register::{check_taps, signal};
@@ -103,14 +103,4 @@ pub fn predict_in_room(
     y[..samples.len()].copy_from_slice(&samples);
     wide[..samples.len() + 1].fill(0);
     Ok(samples.len())
-}
-
-/// r divided by a positive divisor, to nearest, halves away from zero.
-pub fn mean(r: i64, divisor: i64) -> i64 {
-    let size = (2 * r.abs() + divisor) / (2 * divisor);
-    if r < 0 {
-        -size
-    } else {
-        size
-    }
 }

@@ -1,10 +1,12 @@
 //! A run of the log program: its campaign, its open day and the lines it prints.
 
 use crate::campaign::{check_start, start, Campaign, Lent};
+use crate::edition::FIRST;
 use crate::met;
+use crate::met_edition;
 use crate::open_day::{OpenDay, Opened};
 use crate::reading::Counts;
-use crate::record::{Record, ASK, CAPTURE, ENTER, OPEN, SAMPLE, START, WITHDRAW};
+use crate::record::{kind_of, Record, ASK, CAPTURE, EDITION, ENTER, OPEN, SAMPLE, START, WITHDRAW};
 use crate::refusal::{number, Refusal};
 use crate::room::Room;
 use std::fmt::Write;
@@ -29,6 +31,10 @@ impl Answer {
 pub struct Run {
     campaign: Option<(Campaign, Lent)>,
     open: Option<OpenDay>,
+    /// The kind of the last record that was carried out.
+    last: Option<u8>,
+    /// Whether the log itself has named the campaign's edition.
+    edition_named: bool,
     pub answer: Answer,
 }
 
@@ -42,8 +48,13 @@ pub const PROGRAM_ORDER: u32 = 9;
 pub const PROGRAM_SLOTS: u32 = 8;
 
 /// Accepts a start within the program's limits: 17 stands in the place of 6.
-fn start_in_program(order: u32, taps: u32, slots: u32) -> Result<(Campaign, Lent), Refusal> {
-    let p = check_start(order, taps, slots)?;
+fn start_in_program(
+    order: u32,
+    taps: u32,
+    slots: u32,
+    edition: u32,
+) -> Result<(Campaign, Lent), Refusal> {
+    let p = check_start(order, taps, slots, edition)?;
     if order > PROGRAM_ORDER || slots > PROGRAM_SLOTS {
         return Err(Refusal::ProgramLimit);
     }
@@ -51,7 +62,7 @@ fn start_in_program(order: u32, taps: u32, slots: u32) -> Result<(Campaign, Lent
         store: vec![0; slots as usize * p],
         sums: vec![0; p],
     };
-    let campaign = start(order, taps, slots, &mut lent.store, &mut lent.sums)?;
+    let campaign = start(order, taps, slots, edition, &mut lent.store, &mut lent.sums)?;
     Ok((campaign, lent))
 }
 
@@ -78,11 +89,20 @@ impl Run {
         }
     }
 
+    /// Why a record of a kind that may not stand next is bad: of an edition the kind just before it tells, of any other its place.
+    pub fn misplaced(&self, kind: u8) -> String {
+        match (kind, self.last) {
+            (EDITION, Some(last)) => format!("kind {kind} after {last}"),
+            _ => format!("kind {kind} {}", self.place()),
+        }
+    }
+
     /// Whether a record of this kind may stand next.
     pub fn allows(&self, kind: u8) -> bool {
         match (&self.campaign, &self.open) {
             (None, _) => kind == START,
             (Some(_), Some(_)) => kind == SAMPLE || kind == ENTER,
+            (Some(_), None) if kind == EDITION => self.last == Some(START),
             (Some(_), None) => [OPEN, WITHDRAW, ASK, CAPTURE].contains(&kind),
         }
     }
@@ -95,10 +115,12 @@ impl Run {
     }
 
     pub fn carry_out(&mut self, record: Record) -> After {
+        self.last = Some(kind_of(record));
         match record {
             Record::Start { order, taps, slots } => {
                 return self.start(u32::from(order), u32::from(taps), u32::from(slots));
             }
+            Record::Edition(edition) => return self.edition(u32::from(edition)),
             Record::Open(day) => self.open = Some(OpenDay::new(day, Opened::OnePeriod)),
             Record::Capture { day, m } => {
                 self.open = Some(OpenDay::new(day, Opened::Capture { m }))
@@ -112,12 +134,29 @@ impl Run {
     }
 
     fn start(&mut self, order: u32, taps: u32, slots: u32) -> After {
-        let started = start_in_program(order, taps, slots);
+        let started = start_in_program(order, taps, slots, FIRST);
         self.answer
             .line(format_args!("start {}", start_words(&started)));
         self.answer
             .met
             .push(met::start(order, taps, slots, &started));
+        self.begin(started)
+    }
+
+    /// The campaign just started, afresh in this edition.
+    fn edition(&mut self, edition: u32) -> After {
+        let (begun, _) = self.campaign();
+        let started = start_in_program(begun.order, begun.taps, begun.slots, edition);
+        let answer = number(&started);
+        self.answer.line(format_args!("edition {answer}"));
+        self.answer
+            .met
+            .push(met_edition::edition(edition, &started));
+        self.edition_named = true;
+        self.begin(started)
+    }
+
+    fn begin(&mut self, started: Result<(Campaign, Lent), Refusal>) -> After {
         match started {
             Ok(campaign) => {
                 self.campaign = Some(campaign);
@@ -189,8 +228,10 @@ impl Run {
                 self.answer.line(format_args!("{k} {r} {mean}"));
             }
         }
+        let named = self.edition_named;
         let (campaign, _) = self.campaign();
-        let names = met::response(answer, campaign, &r);
+        let mut names = met::response(answer, campaign, &r);
+        names.extend(met_edition::asked(answer, campaign, named, &r));
         self.answer.met.extend(names);
     }
 }

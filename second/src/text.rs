@@ -23,6 +23,10 @@ fn records(line: &str) -> Result<Vec<Record>, String> {
             taps: value("taps", taps, 0, 65535)? as u16,
             slots: value("slots", slots, 0, 255)? as u8,
         }]),
+        ["edition", edition] => Ok(vec![Record::Edition(
+            value("edition", edition, 0, 255)? as u8
+        )]),
+        ["edition", ..] => Err("write `edition N`".to_string()),
         ["start", ..] => Err("write `start ORDER TAPS SLOTS`".to_string()),
         ["day", day] => Ok(vec![Record::Open(value("day", day, 0, 65535)? as u16)]),
         ["day", ..] => Err("write `day N`, and the samples on lines of their own".to_string()),
@@ -44,7 +48,7 @@ fn records(line: &str) -> Result<Vec<Record>, String> {
         ["ask"] => Ok(vec![Record::Ask]),
         ["enter" | "ask", ..] => Err(format!("nothing may follow `{}`", words[0])),
         [word, ..] => Err(format!(
-            "`{word}` is not one of start, day, capture, samples, enter, withdraw, ask"
+            "`{word}` is not one of start, edition, day, capture, samples, enter, withdraw, ask"
         )),
     }
 }

@@ -1,6 +1,7 @@
 //! The calls of the year on one campaign and its memory, each with the line that it prints.
 
 use crate::campaign::{self, Campaign, Lent};
+use crate::edition::FIRST;
 use crate::entering::Entry;
 use crate::night::Night;
 use crate::player::Player;
@@ -10,7 +11,7 @@ use crate::response::predict;
 use crate::room::Room;
 use crate::year_memory::{digest_of, Lengths, Memory, STORE, SUMS};
 
-/// What a start is asked for, and how much of the store and of the sums it is lent.
+/// What a start in the first edition is asked for, and how much of the store and of the sums it is lent.
 #[derive(Clone, Copy)]
 pub struct Start {
     pub order: u32,
@@ -36,6 +37,7 @@ impl Start {
             self.order,
             self.taps,
             self.slots,
+            FIRST,
             &mut lent.store[..self.store],
             &mut lent.sums[..self.sums],
         )

@@ -21,7 +21,7 @@ fn lent(slots: usize) -> Lent {
 /// Order 3, taps 3.
 fn campaign(slots: u32) -> (Campaign, Lent) {
     let mut lent = lent(slots as usize);
-    let campaign = start(3, 3, slots, &mut lent.store, &mut lent.sums).unwrap();
+    let campaign = start(3, 3, slots, 1, &mut lent.store, &mut lent.sums).unwrap();
     (campaign, lent)
 }
 
@@ -72,7 +72,7 @@ fn response(at: &(Campaign, Lent), r: usize, means: usize, wide: usize) -> u8 {
 
 #[test]
 fn a_start_refuses_in_order() {
-    let refused = |order, taps, slots| number(&start(order, taps, slots, &mut [], &mut []));
+    let refused = |order, taps, slots| number(&start(order, taps, slots, 1, &mut [], &mut []));
     assert_eq!(refused(17, 0, 0), 1);
     assert_eq!(refused(3, 8, 0), 2);
     assert_eq!(refused(3, 2, 0), 3);
@@ -83,7 +83,7 @@ fn a_start_refuses_in_order() {
         store: vec![9; 7],
         sums: vec![9; 6],
     };
-    let refused = start(3, 3, 1, &mut no_sums.store, &mut no_sums.sums);
+    let refused = start(3, 3, 1, 1, &mut no_sums.store, &mut no_sums.sums);
     assert_eq!(refused, Err(Refusal::RoomTooShort));
     assert_eq!(
         no_sums,
@@ -100,7 +100,7 @@ fn a_start_clears_only_its_own_part() {
         store: vec![9; 15],
         sums: vec![9; 8],
     };
-    start(3, 3, 2, &mut long.store, &mut long.sums).unwrap();
+    start(3, 3, 2, 1, &mut long.store, &mut long.sums).unwrap();
     assert_eq!(long.store, [[0; 14].as_slice(), &[9]].concat());
     assert_eq!(long.sums, [0, 0, 0, 0, 0, 0, 0, 9]);
 }

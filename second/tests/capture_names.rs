@@ -10,8 +10,9 @@ use std::collections::BTreeSet;
 fn met(slots: u8, text: &str) -> Vec<String> {
     let log = log_from_text(&format!("start 2 3 {slots}\n{text}")).unwrap();
     let met = answer(&log).met;
-    assert_eq!(met[0], "start: 0 order 2");
-    met[1..].to_vec()
+    let after_start = "behind: other after an accepted start";
+    assert_eq!(met[..2], ["start: 0 order 2", after_start]);
+    met[2..].to_vec()
 }
 
 fn assert_met(slots: u8, text: &str, expected: &[&str]) {

@@ -18,7 +18,7 @@ fn campaign(slots: usize) -> (Campaign, Lent) {
         store: vec![9; slots * P],
         sums: vec![9; P],
     };
-    let campaign = start(3, 3, slots as u32, &mut lent.store, &mut lent.sums).unwrap();
+    let campaign = start(3, 3, slots as u32, 1, &mut lent.store, &mut lent.sums).unwrap();
     (campaign, lent)
 }
 

@@ -26,6 +26,7 @@ fn held(days: usize, slots: usize, periods: usize) -> Held {
         order: 2,
         taps: 3,
         count: SLOTS as u32,
+        edition: 1,
         days: vec![HELD; days],
         slots: vec![u16::from(HELD); slots],
         periods: vec![HELD; periods],
@@ -285,9 +286,9 @@ fn damage_moves_a_used_slot_to_its_bounds_and_one_beyond() {
 }
 
 #[test]
-fn a_thousand_cases_meet_every_answer_of_every_campaign_call() {
+fn two_thousand_cases_meet_every_answer_of_every_campaign_call() {
     let mut printed = Vec::new();
-    second::door::print(1, 1000, &mut printed).unwrap();
+    second::door::print(1, 2000, &mut printed).unwrap();
     let printed = String::from_utf8(printed).unwrap();
     let mut met = BTreeSet::new();
     for line in printed.lines() {
@@ -306,7 +307,7 @@ fn a_thousand_cases_meet_every_answer_of_every_campaign_call() {
         .collect();
     expected.push("capture 18 9".to_string());
     for (call, answers) in [
-        ("start", "0 1 2 3 4 6 9"),
+        ("start", "0 1 2 3 4 6 9 24"),
         ("withdraw", "0 10 13 15"),
         ("counts", "0 15"),
         ("response", "0 6 14 15"),

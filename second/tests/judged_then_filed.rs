@@ -24,7 +24,7 @@ fn campaign() -> At {
         store: vec![9; SLOTS * P],
         sums: vec![9; P],
     };
-    let campaign = start(2, 3, SLOTS as u32, &mut lent.store, &mut lent.sums).unwrap();
+    let campaign = start(2, 3, SLOTS as u32, 1, &mut lent.store, &mut lent.sums).unwrap();
     (campaign, lent)
 }
 

@@ -76,7 +76,7 @@ fn no_other_record_is_a_start() {
 
 #[test]
 fn unknown_kinds() {
-    for kind in [0, 8, 255] {
+    for kind in [0, 9, 255] {
         assert_eq!(lines(&log(&[&START, &[kind]])), "start 0\nbad 5\n");
         assert_eq!(
             lines(&log(&[&START, &[2, 1, 0], &[kind]])),

@@ -1,9 +1,10 @@
 //! The numbers 01 holds the meter to.
 
+use second::edition::{mean, Edition};
 use second::numbers::{digest, pattern, response_of};
 use second::refusal::{number, told_period};
 use second::register::{check_taps, default_taps, period, sequence, signal};
-use second::response::{mean, predict, predict_in_room, HIGHEST, LOWEST};
+use second::response::{predict, predict_in_room, HIGHEST, LOWEST};
 
 fn bits(order: u32, taps: u32) -> Vec<u8> {
     let mut bits = vec![9; period(order)];
@@ -109,7 +110,7 @@ fn means() {
         (0, 0),
     ];
     for (r, expected) in pairs {
-        assert_eq!(mean(r, 8), expected, "{r}/8");
+        assert_eq!(mean(Edition::First, r, 8), expected, "{r}/8");
     }
 }
 

@@ -24,7 +24,7 @@ fn campaign(slots: usize) -> At {
         store: vec![9; slots * P],
         sums: vec![9; P],
     };
-    let campaign = start(2, 3, slots as u32, &mut lent.store, &mut lent.sums).unwrap();
+    let campaign = start(2, 3, slots as u32, 1, &mut lent.store, &mut lent.sums).unwrap();
     (campaign, lent)
 }
 

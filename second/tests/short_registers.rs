@@ -29,7 +29,7 @@ fn answers(order: u32, taps: u32) -> [Result<usize, Refusal>; 6] {
         one_recording(order, taps, &samples, &mut vec![0; p], room),
         predict(order, taps, &samples, &mut vec![0; p]),
         predict_in_room(order, taps, &samples, &mut vec![0; p], &mut vec![0; p + 1]),
-        start(order, taps, 1, &mut vec![0; p], &mut vec![0; p]).map(|campaign| campaign.p()),
+        start(order, taps, 1, 1, &mut vec![0; p], &mut vec![0; p]).map(|campaign| campaign.p()),
     ]
 }
 
@@ -67,7 +67,7 @@ fn no_other_refusal_has_a_period() {
         response_of(3, 3, &[8_388_608; 7]).map(|r| r.len()),
         predict(3, 3, &loud, &mut [0; 7]),
         predict_in_room(3, 3, &[0; 7], &mut [0; 7], &mut [0; 7]),
-        start(3, 3, 65, &mut [], &mut []).map(|campaign| campaign.p()),
+        start(3, 3, 65, 1, &mut [], &mut []).map(|campaign| campaign.p()),
     ];
     assert_eq!(after_the_taps.each_ref().map(number), [6, 5, 7, 8, 6, 9]);
     assert_eq!(after_the_taps.each_ref().map(told_period), [None; 6]);

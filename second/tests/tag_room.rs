@@ -66,7 +66,7 @@ impl Caller {
             sums: held(p),
         };
         Caller {
-            campaign: start(order, taps, 1, &mut lent.store, &mut lent.sums).unwrap(),
+            campaign: start(order, taps, 1, 1, &mut lent.store, &mut lent.sums).unwrap(),
             lent,
             recording,
             r: held(p),

@@ -1,3 +1,4 @@
 -- The laws of the calls that change a campaign.
 pub mod Passing
 pub mod EntryCases
+pub mod Handed

@@ -1,12 +1,12 @@
 -- What the checks of a start, a filing and a withdrawal have shown where none refuses. Assumes nothing.
-use mathlib.Core.Path.{_≡_, refl, sym, ap, _∙_}
-use mathlib.Core.Bool.{false, cond}
-use mathlib.Core.List.{List}
+use mathlib.Core.Path.{_≡_, refl, sym, ap, ap₂, _∙_}
+use mathlib.Core.Bool.{Bool, true, false, cond, _||_}
+use mathlib.Core.List.{List, [], _∷_}
 use Prim.Native.Nat.{ℕ, _+_, _-_, _*_, _^_, _≤_, _<_}
 use native.Mathlib.Nat.{mul-le-mul-right, suc-mul}
 use native.Mathlib.Decide.{decLt}
 use native.Mathlib.Omega.{arith}
-use borrow.Author.Tests.{ltb-false, eqb-true, not-false}
+use borrow.Author.Tests.{ltb-false, le-ltb, eqb-true, not-false}
 use lib.Dec.{eqb, ltb}
 use lib.IntN.{ℤ, pos, natAbs}
 use lib.ListN.{length}
@@ -18,6 +18,7 @@ use Rattle.sums.proofs.Seek.{First, seek-first}
 use Rattle.sums.proofs.Sum.{sum-ext, sum-one}
 use Rattle.finding.specs.Finding.{finding}
 use Rattle.nights.specs.declared.Night.{Night}
+use Rattle.rounding.specs.Rounding.{isEdition}
 use Rattle.register.specs.Register.{P, Accepted}
 use Rattle.register.specs.Calls.{tapsChecks, answerOf, tapsAnswer}
 use Rattle.register.proofs.Judged.{accepted-exactly}
@@ -32,7 +33,7 @@ use Rattle.records.proofs.Refiling.{Day}
 use Rattle.records.proofs.Tallying.{used-standing}
 use Rattle.records.proofs.Totals.{sum-small}
 use Rattle.campaign.specs.declared.Started.{Started}
-use Rattle.campaign.specs.Calls.{dayOut, startChecks, startOutcome, enterChecks, judgedFor, settledOf, withdrawChecks, lowestFree, slotOfDay}
+use Rattle.campaign.specs.Calls.{slotsOut, editionOut, dayOut, startChecks, startOutcome, enterChecks, judgedFor, settledOf, withdrawChecks, lowestFree, slotOfDay}
 
 pub in-day : (d : ℕ) → dayOut d ≡ false → Day d
 in-day d h = let two = or-false (ltb d 1) (ltb 366 d) h in record { first = ltb-false d 1 (two .0); last = ltb-false 366 d (two .1) }
@@ -90,34 +91,57 @@ module _ {c : Campaign} {store sums : List ℤ} (t : Together c store sums) wher
 -- ---- no check refuses
 
 -- what an accepted start has shown
-pub record Begins (N taps C : ℕ) (store sums : List ℤ) : Type 0 where
+pub record Begins (N taps C E : ℕ) (store sums : List ℤ) : Type 0 where
   pub accepted : Accepted N taps
   pub least : 1 ≤ C
   pub most : C ≤ 64
+  pub edition : isEdition E ≡ true
   pub store-long : C * P N ≤ length store
   pub sums-long : P N ≤ length sums
 
 -- a start that no check refuses
-pub begins : (N taps C : ℕ) (store sums : List ℤ) → first (startChecks N taps C store sums) ≡ 0 → Begins N taps C store sums
+pub begins : (N taps C E : ℕ) (store sums : List ℤ) → first (startChecks N taps C E store sums) ≡ 0 → Begins N taps C E store sums
 unfolding tapsAnswer
-begins N taps C store sums z =
-    let p = passes (startChecks N taps C store sums) tt z in
+begins N taps C E store sums z =
+    let p = passes (startChecks N taps C E store sums) tt z in
     let nine = or-false (ltb C 1) (ltb 64 C) (p .1 .1 .1 .1 .0) in
-    let six = or-false (ltb (length store) (C * P N)) (ltb (length sums) (P N)) (p .1 .1 .1 .1 .1 .0) in
+    let six = or-false (ltb (length store) (C * P N)) (ltb (length sums) (P N)) (p .1 .1 .1 .1 .1 .1 .0) in
     record {
       accepted = accepted-exactly N taps .0 (accepts (tapsChecks N taps) (p .0, (p .1 .0, (p .1 .1 .0, (p .1 .1 .1 .0, tt)))));
       least = ltb-false C 1 (nine .0);
       most = ltb-false 64 C (nine .1);
+      edition = not-false (isEdition E) (p .1 .1 .1 .1 .1 .0);
       store-long = ltb-false (length store) (C * P N) (six .0);
       sums-long = ltb-false (length sums) (P N) (six .1);
     }
 
+-- where the taps, the slot count and the memory are right, nothing but its edition refuses a start
+pub only-edition : (N taps C E : ℕ) (store sums : List ℤ) → tapsAnswer N taps ≡ 0 → slotsOut C ≡ false
+    → ltb (length store) (C * P N) || ltb (length sums) (P N) ≡ false → first (startChecks N taps C E store sums) ≡ first ((24, editionOut E) ∷ [])
+unfolding tapsAnswer
+only-edition N taps C E store sums z nine six =
+    passed-first (tapsChecks N taps) ((9, slotsOut C) ∷ (24, editionOut E) ∷ (6, ltb (length store) (C * P N) || ltb (length sums) (P N)) ∷ []) tt z
+    ∙ ap₂ (λ o s. first ((9, o) ∷ (24, editionOut E) ∷ (6, s) ∷ [])) nine six
+    ∙ go (editionOut E)
+  where
+    go : (b : Bool) → first ((9, false) ∷ (24, b) ∷ (6, false) ∷ []) ≡ first ((24, b) ∷ [])
+    go true = refl
+    go false = refl
+
+-- so in the memory of a campaign that holds together
+pub afresh : (c : Campaign) (store sums : List ℤ) → Together c store sums → (E : ℕ)
+    → first (startChecks (c .order) (c .taps) (c .capacity) E store sums) ≡ first ((24, editionOut E) ∷ [])
+afresh c store sums h E =
+    only-edition (c .order) (c .taps) (c .capacity) E store sums (accepted-exactly (c .order) (c .taps) .1 (h .filed .accepted))
+    (ap₂ _||_ (le-ltb (c .capacity) 1 (h .filed .least)) (le-ltb 64 (c .capacity) (h .filed .most)))
+    (ap₂ _||_ (le-ltb (length store) (c .capacity * P (c .order)) (h .store-long)) (le-ltb (length sums) (P (c .order)) (h .sums-long)))
+
 -- a start's answer, told with the period, and so the period that goes with its number
-pub start-tells : (c : Campaign) (N taps C : ℕ) (store sums : List ℤ)
-    → startOutcome c N taps C store sums .0 .answer ≡ answerOf N taps (first (startChecks N taps C store sums))
+pub start-tells : (c : Campaign) (N taps C E : ℕ) (store sums : List ℤ)
+    → startOutcome c N taps C E store sums .0 .answer ≡ answerOf N taps (first (startChecks N taps C E store sums))
 unfolding startOutcome
-start-tells c N taps C store sums =
-    read-off (startChecks N taps C store sums) (λ (o : Started × List ℤ × List ℤ). o .0 .answer) (answerOf N taps) _ _ (λ n. refl) refl
+start-tells c N taps C E store sums =
+    read-off (startChecks N taps C E store sums) (λ (o : Started × List ℤ × List ℤ). o .0 .answer) (answerOf N taps) _ _ (λ n. refl) refl
 
 pub record Withdraws (c : Campaign) (store sums : List ℤ) (d : ℕ) : Type 0 where
   pub whole : Together c store sums

@@ -1,5 +1,5 @@
 -- The calls that change a campaign, each by one function from all that is handed in to all that is handed back: document 01, "The campaign",
--- "Refusal numbers", "Order of checks" and "Room", and document 02, requests 1 and 5. Assumes nothing.
+-- "Refusal numbers", "Order of checks" and "Room", and document 02, requests 1, 5 and 9. Assumes nothing.
 use mathlib.Core.List.{List, [], _∷_, _++_}
 use mathlib.Core.Bool.{Bool, true, false, not, _&&_, _||_}
 use Prim.Native.Nat.{ℕ, _*_}
@@ -11,6 +11,7 @@ use Rattle.sums.specs.Refusals.{outcome, Meaning, accepts, refuses}
 use Rattle.register.specs.Register.{P}
 use Rattle.register.specs.Calls.{tapsChecks, answerOf}
 use Rattle.samples.specs.Samples.{clearedWide}
+use Rattle.rounding.specs.Rounding.{isEdition}
 use Rattle.finding.specs.Finding.{finding}
 use Rattle.nights.specs.Nights.{periodsOf, settled, term}
 use Rattle.nights.specs.declared.Night.{Night}
@@ -34,6 +35,10 @@ use Rattle.campaign.specs.declared.Withdrawn.{Withdrawn}
 abbrev pub slotsOut : ℕ → Bool
 slotsOut C = ltb C 1 || ltb 64 C
 
+-- 24: an edition other than 1 or 2
+abbrev pub editionOut : ℕ → Bool
+editionOut E = not (isEdition E)
+
 -- 10: day not 1 to 366
 abbrev pub dayOut : ℕ → Bool
 dayOut d = ltb d 1 || ltb 366 d
@@ -42,16 +47,16 @@ dayOut d = ltb d 1 || ltb 366 d
 abbrev pub dayChecks : Campaign → List ℤ → List ℤ → ℕ → List (ℕ × Bool)
 dayChecks c store sums d = (15, apart c store sums) ∷ (10, dayOut d) ∷ []
 
--- ---- start: 1, 2, 3, 4, 9, 6; the answer, told with the period, with the record, the store and the sums
+-- ---- start: 1, 2, 3, 4, 9, 24, 6; the answer, told with the period, with the record, the store and the sums
 
-abbrev pub startChecks : ℕ → ℕ → ℕ → List ℤ → List ℤ → List (ℕ × Bool)
-startChecks N taps C store sums =
-    tapsChecks N taps ++ (9, slotsOut C) ∷ (6, ltb (length store) (C * P N) || ltb (length sums) (P N)) ∷ []
+abbrev pub startChecks : ℕ → ℕ → ℕ → ℕ → List ℤ → List ℤ → List (ℕ × Bool)
+startChecks N taps C E store sums =
+    tapsChecks N taps ++ (9, slotsOut C) ∷ (24, editionOut E) ∷ (6, ltb (length store) (C * P N) || ltb (length sums) (P N)) ∷ []
 
-unfoldable pub startOutcome : Campaign → ℕ → ℕ → ℕ → List ℤ → List ℤ → Started × List ℤ × List ℤ
-startOutcome c N taps C store sums =
-    outcome (startChecks N taps C store sums) (λ n. (record { answer = answerOf N taps n; campaign = c }, store, sums)) (
-      record { answer = answerOf N taps 0; campaign = fresh N taps C },
+unfoldable pub startOutcome : Campaign → ℕ → ℕ → ℕ → ℕ → List ℤ → List ℤ → Started × List ℤ × List ℤ
+startOutcome c N taps C E store sums =
+    outcome (startChecks N taps C E store sums) (λ n. (record { answer = answerOf N taps n; campaign = c }, store, sums)) (
+      record { answer = answerOf N taps 0; campaign = fresh N taps C E },
       clearedWide (C * P N) store,
       clearedWide (P N) sums,
     )

@@ -7,6 +7,7 @@ use records::tables::outside;
 use register::shift::full_period;
 use register::taps::taps_refusal;
 use register::telling::tell;
+use rounding::editions::is_edition;
 use samples::clearing::clear_samples;
 use samples::clearing::clear_wide;
 ghost use mathlib.Core.Path.{_≡_};
@@ -17,7 +18,7 @@ ghost use lib.Dec.{ltb};
 ghost use Rattle.sums.specs.Refusals.{first};
 ghost use Rattle.register.specs.Register.{P};
 ghost use Rattle.register.specs.Calls.{tapsChecks};
-ghost use Rattle.campaign.specs.Calls.{slotsOut, startOutcome};
+ghost use Rattle.campaign.specs.Calls.{slotsOut, editionOut, startOutcome};
 
 // Whether the store is short of C·P samples, or the sums of P.
 fn memory_short(capacity: usize, period: usize, store: usize, sums: usize) -> bool
@@ -27,9 +28,16 @@ fn memory_short(capacity: usize, period: usize, store: usize, sums: usize) -> bo
     store < capacity * period || sums < period
 }
 
-// The first of 1, 2, 3, 4, 9, 6 that refuses a start with so much memory, and 0 where none does.
-pub fn start_refusal(order: u32, taps: u32, capacity: u32, store: usize, sums: usize) -> u32
-    ensures { λ n. ⌜ n ≡ first (tapsChecks order taps ++ (9, slotsOut capacity) ∷ (6, ltb store (capacity * P order) || ltb sums (P order)) ∷ []) ⌝ }
+// The first of 1, 2, 3, 4, 9, 24, 6 that refuses a start with so much memory, and 0 where none does.
+pub fn start_refusal(
+    order: u32,
+    taps: u32,
+    capacity: u32,
+    edition: u32,
+    store: usize,
+    sums: usize,
+) -> u32
+    ensures { λ n. ⌜ n ≡ first (tapsChecks order taps ++ (9, slotsOut capacity) ∷ (24, editionOut edition) ∷ (6, ltb store (capacity * P order) || ltb sums (P order)) ∷ []) ⌝ }
 {
     let refusal = taps_refusal(order, taps);
     if refusal != 0 {
@@ -38,24 +46,28 @@ pub fn start_refusal(order: u32, taps: u32, capacity: u32, store: usize, sums: u
     if outside(capacity, MOST_SLOTS) {
         return 9;
     }
+    if !is_edition(edition) {
+        return 24;
+    }
     if memory_short(capacity as usize, full_period(order) as usize, store, sums) {
         return 6;
     }
     0
 }
 
-// Every day unseen, every slot free, zeros in the store and the sums, refusing 1, 2, 3, 4, 9, 6.
+// Every day unseen, every slot free, zeros in the store and the sums, refusing 1, 2, 3, 4, 9, 24, 6.
 pub fn start(
     c: Campaign,
     order: u32,
     taps: u32,
     capacity: u32,
+    edition: u32,
     store: &mut [i32],
     sums: &mut [i64],
 ) -> Started
-    ensures { λ r. ⌜ (r, now (store .exit), now (sums .exit)) ≡ startOutcome c order taps capacity (now (store .entry)) (now (sums .entry)) ⌝ }
+    ensures { λ r. ⌜ (r, now (store .exit), now (sums .exit)) ≡ startOutcome c order taps capacity edition (now (store .entry)) (now (sums .entry)) ⌝ }
 {
-    let refusal = start_refusal(order, taps, capacity, store.len(), sums.len());
+    let refusal = start_refusal(order, taps, capacity, edition, store.len(), sums.len());
     let answer = tell(order, taps, refusal);
     if refusal != 0 {
         return Started {
@@ -68,6 +80,6 @@ pub fn start(
     clear_wide(sums, period);
     Started {
         answer,
-        campaign: blank(order, taps, capacity),
+        campaign: blank(order, taps, capacity, edition),
     }
 }

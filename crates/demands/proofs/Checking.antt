@@ -12,9 +12,9 @@ use Rattle.history.specs.Run.{World, Call, start, judge, file, withdraw, counts
 
 pub refused-leaves : (w : World) (call : Call) → (answer w call ≡ 0 → ⊥) → after w call ≡ w
 unfolding startOutcome withdrawOutcome
-refused-leaves w (start N taps C) h =
+refused-leaves w (start N taps C E) h =
     ap (λ (o : Started × List ℤ × List ℤ). record { campaign = o .0 .campaign; store = o .1; sums = o .2 })
-    (refused-same (startChecks N taps C (w .store) (w .sums)) (λ (o : Started × List ℤ × List ℤ). o .0 .answer .number) _ _ (λ n. refl) refl h)
+    (refused-same (startChecks N taps C E (w .store) (w .sums)) (λ (o : Started × List ℤ × List ℤ). o .0 .answer .number) _ _ (λ n. refl) refl h)
 refused-leaves w (judge N taps night y) h = refl
 refused-leaves w (file d night y s) h =
     ap (λ (o : Entered × List ℤ × List ℤ). record { campaign = o .0 .campaign; store = o .1; sums = o .2 })

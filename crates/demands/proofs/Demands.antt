@@ -6,20 +6,23 @@
 -- list, `sum n f` the sum of f 0 to f (n - 1). `run w₀ cs` is the world, a record with the memory lent, after the calls cs, the latest first.
 -- `made w₀ cs d` is what the last accepted call naming day d made it, or unseen; `heard w₀ cs d` is the last recording accepted for it, as its samples
 -- after the run-in and how many periods they are; `begun w₀ cs` is the record that the last accepted start made.
-use mathlib.Core.Path.{_≡_, refl, sym, ap, _∙_}
-use mathlib.Core.Logic.{_↔_, _⊎_}
-use mathlib.Core.Bool.{Bool, true, false, cond, _&&_}
+use mathlib.Core.Path.{_≡_, refl, sym, ap, ap₂, subst, _∙_}
+use mathlib.Core.Logic.{_↔_, _⊎_, inl, inr}
+use mathlib.Core.Bool.{Bool, true, false, cond, not, _&&_, _||_}
 use mathlib.Core.List.{List, [], _∷_, _++_}
-use Prim.Native.Nat.{ℕ, _+_, _-_, _*_, _%_, _^_, _≤_, _<_}
+use Prim.Native.Nat.{ℕ, _+_, _-_, _*_, _/_, _%_, _^_, _≤_, _<_}
 use native.Mathlib.Nat.{one-mul, zero-mul}
 use native.Mathlib.Numerals.{add-one}
+use native.Mathlib.Decide.{ℕ-discrete}
 use native.Mathlib.Omega.{arith}
-use lib.Dec.{eqb, ltb}
+use borrow.Author.Tests.{eqb-true, eq-eqb, ne-eqb}
+use lib.Dec.{T, eqb, ltb}
 use lib.Count.{ones}
-use lib.IntN.{ℤ, pos, negsuc, natAbs, _-ℤ_, _*ℤ_}
+use lib.IntN.{ℤ, pos, negsuc, negℤ, natAbs, _-ℤ_, _*ℤ_}
 use lib.ListN.{length, getD, drop, replicate}
 use lib.Signed.{leZ}
 use Rattle.sums.specs.Sum.{sum, total, sign}
+use Rattle.sums.proofs.Everywhere.{or-rest}
 use Rattle.sums.proofs.Largest.{Near, spread-exactly}
 use Rattle.sums.specs.Lists.{at, table, put, putAt, seek, some, every, many}
 use Rattle.sums.specs.Refusals.{first, numbers, outcome}
@@ -29,6 +32,7 @@ use Rattle.register.proofs.OddTaps.{accepted-maximal}
 use Rattle.register.specs.Calls.{orderOut, told, answerOf, shapeChecks, tapsChecks, tapsAnswer, sequenceChecks, sequenceOutcome}
 use Rattle.register.proofs.HowShort.{Tells}
 use Rattle.register.proofs.HowShort as short
+use Rattle.register.specs.declared.Answer.{Answer}
 use Rattle.defaults.specs.Calls.{defaultOutcome, defaultNumber}
 use Rattle.defaults.specs.declared.DefaultTaps.the-variants as default
 use Rattle.player.specs.Calls.{newOutcome, stepChecks, stepOutcome, playOutcome, newNumber, tickNumber}
@@ -42,7 +46,8 @@ use Rattle.response.specs.Response as formula
 use Rattle.response.specs.Calls.{givenChecks, recordingChecks, recordingOutcome}
 use Rattle.response.proofs.Enough as of-recording
 use Rattle.prediction.specs.Calls.{predictionChecks, predictionOutcome, roomedChecks, roomedOutcome}
-use Rattle.rounding.specs.Rounding.{nearest, rounded}
+use Rattle.rounding.specs.Rounding.{awayFromZero, toEven, isEdition, halfway, nearest, nearestIn, rounded}
+use Rattle.rounding.proofs.Halves as halves
 use Rattle.finding.specs.Finding.{spread, finding}
 use Rattle.finding.specs.declared.Finding.{Finding}
 use Rattle.finding.specs.declared.Finding.the-variants as finds
@@ -60,17 +65,19 @@ use Rattle.judging.specs.declared.Judged.{Judged}
 use Rattle.judging.specs.declared.Judged.the-variants as judged
 use Rattle.judging.specs.declared.Judgement.{Judgement}
 use Rattle.judging.proofs.Judgements.{finding-accepts, judge-first, judge-told, judged-exactly}
-use Rattle.campaign.specs.Calls.{dayOut, startChecks, startOutcome, enterChecks, judgedFor, settledOf, termOf, entered, fileOutcome, enterOutcome, handed, verdictOf, stateOf, keeps, fileAll, enterAll, withdrawChecks, withdrawOutcome, verdictNumber}
+use Rattle.campaign.specs.Calls.{slotsOut, editionOut, dayOut, startChecks, startOutcome, enterChecks, judgedFor, settledOf, termOf, entered, fileOutcome, enterOutcome, handed, verdictOf, stateOf, keeps, fileAll, enterAll, withdrawChecks, withdrawOutcome, verdictNumber}
 use Rattle.campaign.specs.declared.Shown.{Shown}
 use Rattle.campaign.specs.declared.Started.{Started}
 use Rattle.campaign.proofs.EntryCases.{file-first, file-refused, twenty-three, other, unslotted, as-shown, refusal-shown, entry-first, entry-verdict}
 use Rattle.campaign.proofs.Passing.{start-tells}
+use Rattle.campaign.proofs.Handed.{start-edition}
 use Rattle.campaign.specs.declared.Entered.{Entered}
 use Rattle.campaign.specs.declared.Withdrawn.{Withdrawn}
 use Rattle.campaign.specs.declared.Verdict.the-variants as verdict
-use Rattle.trend.specs.Calls.{worked, countsOutcome, countsNumber, responseChecks, responseOutcome, summaryChecks, summaryOutcome, summaryNumber}
+use Rattle.trend.specs.Calls.{worked, meanAt, countsOutcome, countsNumber, responseChecks, responseOutcome, summaryChecks, summaryOutcome, summaryNumber}
 use Rattle.trend.proofs.Bounds.{worked-small, mean-fits}
 use Rattle.trend.proofs.Enough as of-trend
+use Rattle.trend.proofs.MeansAlone.{inEdition, same-counts, same-summary, same-but-means}
 use Rattle.trend.specs.declared.Counts.the-variants as counts
 use Rattle.trend.specs.declared.Levels.{Levels}
 use Rattle.trend.specs.declared.Summary.{Summary}
@@ -78,6 +85,7 @@ use Rattle.trend.specs.declared.Summary.the-variants as summary
 use Rattle.history.specs.Run.{World, Call, names, after, answer, run, underWay, begun, makes, made, termAt, heard, Elsewhere}
 use Rattle.history.specs.Run as call
 use Rattle.history.proofs.UnderWay.{from-start}
+use Rattle.history.proofs.KeptEdition as kept-edition
 use Rattle.history.proofs.EveryRun as every-run
 use Rattle.history.proofs.AsIf as as-if
 use Rattle.history.proofs.ExactLevels.{Exact, levels-carried}
@@ -118,9 +126,9 @@ pub record Refusals : Type 0 where
       → Checked (1 ∷ 2 ∷ 3 ∷ 4 ∷ 5 ∷ 6 ∷ 7 ∷ 8 ∷ []) (roomedChecks N taps h out room) (λ (o : ℕ × List ℤ × List ℤ). o .0) (λ n. (n, out, room))
       (roomedOutcome N taps h out room)
   pub default-taps : (N : ℕ) → Checked (1 ∷ []) ((1, orderOut N) ∷ []) defaultNumber default.Refused (defaultOutcome N)
-  pub start : (c : Campaign) (N taps C : ℕ) (store sums : List ℤ)
-      → Checked (1 ∷ 2 ∷ 3 ∷ 4 ∷ 9 ∷ 6 ∷ []) (startChecks N taps C store sums) (λ (o : Started × List ℤ × List ℤ). o .0 .answer .number)
-      (λ n. (record { answer = answerOf N taps n; campaign = c }, store, sums)) (startOutcome c N taps C store sums)
+  pub start : (c : Campaign) (N taps C E : ℕ) (store sums : List ℤ)
+      → Checked (1 ∷ 2 ∷ 3 ∷ 4 ∷ 9 ∷ 24 ∷ 6 ∷ []) (startChecks N taps C E store sums) (λ (o : Started × List ℤ × List ℤ). o .0 .answer .number)
+      (λ n. (record { answer = answerOf N taps n; campaign = c }, store, sums)) (startOutcome c N taps C E store sums)
   pub judge : (N taps : ℕ) (night : Night) (y : List ℤ)
       → Checked (1 ∷ 2 ∷ 3 ∷ 4 ∷ 18 ∷ 5 ∷ 7 ∷ []) (judgeChecks N taps night y) (λ (j : Judgement). judgedNumber (j .verdict))
       (λ n. record { verdict = judged.Refused n; period = told N taps n 0 }) (judgeOutcome N taps night y)
@@ -150,7 +158,7 @@ pub record Tails : Type 0 where
   pub prediction : (N taps : ℕ) (h out : List ℤ) → KeepsTail (P N) out (predictionOutcome N taps h out .1)
   pub prediction-in-room : (N taps : ℕ) (h out room : List ℤ) → let o = roomedOutcome N taps h out room in
       KeepsTail (P N) out (o .1) × KeepsTail (P N + 1) room (o .2)
-  pub start : (c : Campaign) (N taps C : ℕ) (store sums : List ℤ) → let o = startOutcome c N taps C store sums in
+  pub start : (c : Campaign) (N taps C E : ℕ) (store sums : List ℤ) → let o = startOutcome c N taps C E store sums in
       KeepsTail (C * P N) store (o .1) × KeepsTail (P N) sums (o .2)
   pub file : (c : Campaign) (store sums : List ℤ) (d : ℕ) (night : Night) (y : List ℤ) (v : Judged) → let o = fileOutcome c store sums d night y v in
       KeepsTail (c .capacity * P (c .order)) store (o .1) × KeepsTail (P (c .order)) sums (o .2)
@@ -184,7 +192,7 @@ demand-1 = (
     prediction = λ N taps h out. checked _ _ _ _ _ refl (λ n. refl) refl;
     prediction-in-room = λ N taps h out room. checked _ _ _ _ _ refl (λ n. refl) refl;
     default-taps = λ N. checked _ _ _ _ _ refl (λ n. refl) refl;
-    start = λ c N taps C store sums. checked _ _ _ _ _ refl (λ n. refl) refl;
+    start = λ c N taps C E store sums. checked _ _ _ _ _ refl (λ n. refl) refl;
     judge = λ N taps night y. checked _ _ _ _ _ refl (λ n. refl) (finding-accepts (foundIn N night y));
     file = λ c store sums d night y v.
         record { in-order = refl; answer = file-first c store sums d night y v; unchanged = file-refused c store sums d night y v };
@@ -255,7 +263,7 @@ pub record Periods : Type 0 where
       Tells N taps n (told N taps n was) was
   pub prediction : (N taps was : ℕ) (h out : List ℤ) → let n = predictionOutcome N taps h out .0 in Tells N taps n (told N taps n was) was
   pub prediction-in-room : (N taps was : ℕ) (h out room : List ℤ) → let n = roomedOutcome N taps h out room .0 in Tells N taps n (told N taps n was) was
-  pub start : (c : Campaign) (N taps C : ℕ) (store sums : List ℤ) → let a = startOutcome c N taps C store sums .0 .answer in
+  pub start : (c : Campaign) (N taps C E : ℕ) (store sums : List ℤ) → let a = startOutcome c N taps C E store sums .0 .answer in
       Tells N taps (a .number) (a .period) 0
   pub judge : (N taps : ℕ) (night : Night) (y : List ℤ) → let j = judgeOutcome N taps night y in Tells N taps (judgedNumber (j .verdict)) (j .period) 0
 
@@ -272,8 +280,8 @@ how-short =
           short.how-short-by N taps (predictionChecks N taps h out) refl (λ (o : ℕ × List ℤ). o .0) _ _ (λ n. refl) refl refl tt was;
       prediction-in-room = λ N taps was h out room.
           short.how-short-by N taps (roomedChecks N taps h out room) refl (λ (o : ℕ × List ℤ × List ℤ). o .0) _ _ (λ n. refl) refl refl tt was;
-      start = λ c N taps C store sums.
-          rw (start-tells c N taps C store sums) (short.how-short N taps (startChecks N taps C store sums) refl tt 0);
+      start = λ c N taps C E store sums.
+          rw (start-tells c N taps C E store sums) (short.how-short N taps (startChecks N taps C E store sums) refl tt 0);
       judge = λ N taps night y.
           rw (judge-told N taps night y, judge-first N taps night y) (short.how-short N taps (judgeChecks N taps night y) refl tt 0);
     }
@@ -391,7 +399,7 @@ pub record Nights : Type 0 where
   pub at-most : (c : Campaign) (store sums : List ℤ) → together c store sums ≡ true → periodsStanding c ≤ 1024
   pub small : (c : Campaign) (store sums : List ℤ) → together c store sums ≡ true → (k : ℕ) → natAbs (worked c sums k) < 2 ^ 49
   pub mean-fits : (c : Campaign) (store sums : List ℤ) → together c store sums ≡ true → (daysIn c standing ≡ 0 → ⊥)
-      → (k : ℕ) → sampleOut (rounded (worked c sums k) ((P (c .order) + 1) * periodsStanding c)) ≡ false
+      → (k : ℕ) → sampleOut (rounded (c .edition) (worked c sums k) ((P (c .order) + 1) * periodsStanding c)) ≡ false
   -- `Exact`: each level is exactly its r over the divisor
   pub exact : (c : Campaign) (store sums room : List ℤ) (tags : List ℕ) → together c store sums ≡ true
       → (n : ℕ) → periodsStanding c ≡ 2 ^ n → (l : Levels) → summaryOutcome c store sums room tags .0 ≡ summary.Measured l → Exact c sums l
@@ -479,6 +487,82 @@ judge-first-file-later =
       entry = λ w d night y. (refl, refl);
     }
 
+-- ---- Document 02: "Report rules edition 2 round an exact half to the even neighbour: 4/8 becomes 0, 12/8 becomes 2. Edition 1, halves away from zero, stays for
+-- trends already begun. A campaign keeps the edition chosen at its start … What does not depend on halves is proved once over both. … Holding together also
+-- wants an edition of 1 or 2. Refusals: 24 for an edition other than 1 or 2, after 9 at the start".
+--
+-- `rounded e z d` is z / d in edition e, the mean of a response that comes to z over the divisor d. `halfway a d`: a / d is a whole number and a half; its
+-- neighbours are then a / d, the quotient without its half, and a / d + 1. The four are 4/8, 12/8, -4/8 and -12/8, in edition 2 and beside it in edition 1.
+-- `run` and `begun` are as in demand 3, of which the edition is a part; `inEdition c e` is the record c in edition e.
+
+pub record Editions : Type 0 where
+  -- in every edition: no whole number is nearer, the sign, a bound, the range of samples
+  pub nearest : (e : ℕ) (z : ℤ) (d : ℕ) → 0 < d → (w : ℤ) → natAbs (z -ℤ rounded e z d *ℤ pos d) ≤ natAbs (z -ℤ w *ℤ pos d)
+  pub sign : (e : ℕ) (z : ℤ) (d : ℕ) → 0 < d → rounded e (negℤ z) d ≡ negℤ (rounded e z d)
+  pub bound : (e : ℕ) (z : ℤ) (d b : ℕ) → 0 < d → natAbs z ≤ b * d → natAbs (rounded e z d) ≤ b
+  pub fits : (c : Campaign) (store sums : List ℤ) → together c store sums ≡ true → (daysIn c standing ≡ 0 → ⊥)
+      → (k : ℕ) → sampleOut (meanAt c sums k) ≡ false
+  -- where no half is, they agree
+  pub agree : (e f : ℕ) (z : ℤ) (d : ℕ) → 0 < d → halfway (natAbs z) d ≡ false → rounded e z d ≡ rounded f z d
+  -- on an exact half edition 1 has the neighbour away from zero, edition 2 the even one
+  pub half : (a d : ℕ) → (halfway a d ≡ true) ↔ (2 * (a % d) ≡ d)
+  pub away : (z : ℤ) (d : ℕ) → 0 < d → halfway (natAbs z) d ≡ true → natAbs (rounded awayFromZero z d) ≡ natAbs z / d + 1
+  pub even : (z : ℤ) (d : ℕ) → 0 < d → halfway (natAbs z) d ≡ true → natAbs (rounded toEven z d) ≡ natAbs z / d + natAbs z / d % 2
+  pub four : (rounded toEven (pos 4) 8 ≡ pos 0) × (rounded toEven (pos 12) 8 ≡ pos 2) × (rounded toEven (negsuc 3) 8 ≡ pos 0) × (rounded toEven (negsuc 11) 8 ≡ negsuc 1)
+  pub four-before : (rounded awayFromZero (pos 4) 8 ≡ pos 1) × (rounded awayFromZero (pos 12) 8 ≡ pos 2) × (rounded awayFromZero (negsuc 3) 8 ≡ negsuc 0)
+      × (rounded awayFromZero (negsuc 11) 8 ≡ negsuc 1)
+  -- the edition chosen at an accepted start is kept, in every run, whatever it began with, and no other call changes it
+  pub chosen : (c : Campaign) (N taps C E : ℕ) (store sums : List ℤ) → let o = startOutcome c N taps C E store sums .0 in
+      o .answer .number ≡ 0 → o .campaign .edition ≡ E
+  pub kept : (w : World) (cs : List Call) → run w cs .campaign .edition ≡ begun w cs .edition
+  pub stays : (w : World) (k : Call) → call.starts k ≡ false → after w k .campaign .edition ≡ w .campaign .edition
+  pub held : (c : Campaign) (store sums : List ℤ) → together c store sums ≡ true → (c .edition ≡ 1) ⊎ (c .edition ≡ 2)
+  pub twenty-four : (c : Campaign) (N taps C E : ℕ) (store sums : List ℤ) → (startOutcome c N taps C E store sums .0 .answer .number ≡ 24)
+      ↔ ((first (tapsChecks N taps ++ (9, slotsOut C) ∷ []) ≡ 0) × ((E ≡ 1 → ⊥) × (E ≡ 2 → ⊥)))
+  -- the same record in the other edition: counts and levels are equal, and a response's answer, r, room and tags
+  pub means-alone : (c : Campaign) (e : ℕ) (store sums r mean room : List ℤ) (tags : List ℕ) → isEdition (c .edition) ≡ true → isEdition e ≡ true
+      → let o = responseOutcome (inEdition c e) store sums r mean room tags in let u = responseOutcome c store sums r mean room tags in
+      (countsOutcome (inEdition c e) store sums ≡ countsOutcome c store sums)
+      × (summaryOutcome (inEdition c e) store sums room tags ≡ summaryOutcome c store sums room tags)
+      × ((o .0 ≡ u .0) × (o .1 ≡ u .1) × (o .3 ≡ u .3) × (o .4 ≡ u .4))
+
+pub halves-to-even : Editions
+unfolding nearest nearestIn
+halves-to-even =
+    record {
+      nearest = halves.nearest-of-all;
+      sign = halves.opposite;
+      bound = halves.rounded-bound;
+      fits = λ c store sums h. mean-fits c store sums (holds-together c store sums .0 h);
+      agree = halves.alike;
+      half = λ a d. (eqb-true (2 * (a % d)) d, eq-eqb (2 * (a % d)) d);
+      away = halves.half-away;
+      even = halves.half-to-even;
+      four = (refl, refl, refl, refl);
+      four-before = (refl, refl, refl, refl);
+      chosen = λ c N taps C E store sums z. start-edition c N taps C E store sums ∙ ap (λ n. cond (eqb n 0) E (c .edition)) z;
+      kept = kept-edition.kept;
+      stays = kept-edition.stays;
+      held = λ c store sums h. one-of (c .edition) (holds-together c store sums .0 h .edition);
+      twenty-four = λ c N taps C E store sums.
+          exactly _ 24 (tapsChecks N taps ++ (9, slotsOut C) ∷ []) (editionOut E) ((6, ltb (length store) (C * P N) || ltb (length sums) (P N)) ∷ [])
+          (ap (λ (a : Answer). a .number) (start-tells c N taps C E store sums)) tt tt tt (neither E);
+      means-alone = λ c e store sums r mean room tags p q.
+          (same-counts c e store sums p q, same-summary c e store sums p q room tags, same-but-means c e store sums p q r mean room tags);
+    }
+  where
+    one-of : (e : ℕ) → isEdition e ≡ true → (e ≡ 1) ⊎ (e ≡ 2)
+    one-of e h = elim (ℕ-discrete e 1) [
+      | yes p ↦ inl p
+      | no p ↦ inr (eqb-true e 2 (or-rest (eqb e 1) (eqb e 2) h (ne-eqb e 1 p)))
+    ]
+
+    neither : (e : ℕ) → (editionOut e ≡ true) ↔ ((e ≡ 1 → ⊥) × (e ≡ 2 → ⊥))
+    neither e = (
+      λ h. (λ p. subst T (ap editionOut p) (subst T (sym h) tt), λ p. subst T (ap editionOut p) (subst T (sym h) tt)),
+      λ n. ap₂ (λ a b. not (a || b)) (ne-eqb e 1 (n .0)) (ne-eqb e 2 (n .1)),
+    )
+
 -- ---- 3. "After any run of calls from a fresh campaign, refused ones included and its lent memory untouched between, each day's state is what the last
 -- accepted call naming that day made it, or unseen if there was none. The sums total, place by place, the last recordings accepted for exactly the days
 -- then standing. If at least one day stands, and each such recording is the circular convolution of a whole-number response with the sequence, the
@@ -486,7 +570,8 @@ judge-first-file-later =
 --
 -- Request 1 of document 02 reads it with a day's term as the sum of its periods, `termAt P (heard w₀ cs d) j` at place j, each a convolution of its own
 -- whole-number response: h d p is that of period p of day d. The calls `cs`, the latest first, lead from w₀, a record and memory that may hold anything, to w. A start may come again: refused, the campaign goes
--- on; accepted, it names every day, and a new campaign begins. The order, taps and capacity are those of the last accepted start (`begun`).
+-- on; accepted, it names every day, and a new campaign begins. The order, taps, capacity and edition are those of the last accepted
+-- start (`begun`).
 
 pub record Said (w₀ : World) (cs : List Call) (w : World) : Type 0 where
   pub each-day : (d : ℕ) → 1 ≤ d → d ≤ 366 → state (w .campaign) d ≡ made w₀ cs d
@@ -506,6 +591,7 @@ pub record Said (w₀ : World) (cs : List Call) (w : World) : Type 0 where
   pub order : w .campaign .order ≡ begun w₀ cs .order
   pub taps : w .campaign .taps ≡ begun w₀ cs .taps
   pub capacity : w .campaign .capacity ≡ begun w₀ cs .capacity
+  pub edition : w .campaign .edition ≡ begun w₀ cs .edition
   pub holds : together (w .campaign) (w .store) (w .sums) ≡ true
   pub no-fifteen : (call : Call) → answer w call ≡ 15 → ⊥
   pub refused : (call : Call) → (answer w call ≡ 0 → ⊥) → after w call ≡ w
@@ -533,6 +619,7 @@ said w₀ cs u =
       order = every-run.same-order w₀ cs u .0;
       taps = every-run.same-order w₀ cs u .1;
       capacity = every-run.same-order w₀ cs u .2;
+      edition = every-run.same-order w₀ cs u .3;
       holds = every-run.holds w₀ cs u;
       no-fifteen = every-run.no-fifteen w₀ cs u;
       refused = refused-leaves (run w₀ cs);
@@ -540,9 +627,9 @@ said w₀ cs u =
     }
 
 -- so of every run that begins with an accepted start
-pub demand-3 : (w₀ : World) (N taps C : ℕ) → startOutcome (w₀ .campaign) N taps C (w₀ .store) (w₀ .sums) .0 .answer .number ≡ 0
-    → (cs : List Call) → let all = cs ++ call.start N taps C ∷ [] in Said w₀ all (run w₀ all)
-demand-3 w₀ N taps C e cs = said _ _ (from-start w₀ N taps C e cs)
+pub demand-3 : (w₀ : World) (N taps C E : ℕ) → startOutcome (w₀ .campaign) N taps C E (w₀ .store) (w₀ .sums) .0 .answer .number ≡ 0
+    → (cs : List Call) → let all = cs ++ call.start N taps C E ∷ [] in Said w₀ all (run w₀ all)
+demand-3 w₀ N taps C E e cs = said _ _ (from-start w₀ N taps C E e cs)
 
 -- ---- Document 01: "A kept entry followed at once by its withdrawal gives back store, sums and slots bit for bit. With calls on other days between, the sums
 -- and the set of standing days are as if it had not come, provided none of those calls was refused with 12; slots may differ."
@@ -593,16 +680,16 @@ abbrev pub night-3 : List ℤ
 night-3 = pos 0 ∷ pos 7 ∷ pos 3 ∷ []
 
 abbrev pub nights : List Call
-nights = call.file 2 (capture 2) night-2 (handed judged.Kept) ∷ call.judge 2 3 (capture 2) night-2 ∷ call.enter 1 period night-1 ∷ call.start 2 3 2 ∷ []
+nights = call.file 2 (capture 2) night-2 (handed judged.Kept) ∷ call.judge 2 3 (capture 2) night-2 ∷ call.enter 1 period night-1 ∷ call.start 2 3 2 awayFromZero ∷ []
 
 -- what is lent, and what the start, each night and the withdrawal make of it
 abbrev pub lent : World
-lent = record { campaign = fresh 3 5 1; store = replicate 7 (pos 9); sums = replicate 4 (pos 9) }
+lent = record { campaign = fresh 3 5 1 awayFromZero; store = replicate 7 (pos 9); sums = replicate 4 (pos 9) }
 
 abbrev pub began : World
 began =
     record {
-      campaign = fresh 2 3 2;
+      campaign = fresh 2 3 2 awayFromZero;
       store = pos 0 ∷ pos 0 ∷ pos 0 ∷ pos 0 ∷ pos 0 ∷ pos 0 ∷ pos 9 ∷ [];
       sums = pos 0 ∷ pos 0 ∷ pos 0 ∷ pos 9 ∷ [];
     }
@@ -610,7 +697,7 @@ began =
 abbrev pub one-night : World
 one-night =
     record {
-      campaign = filed (fresh 2 3 2) 1 standing 0 1 1;
+      campaign = filed (fresh 2 3 2 awayFromZero) 1 standing 0 1 1;
       store = negsuc 4 ∷ negsuc 12 ∷ pos 13 ∷ pos 0 ∷ pos 0 ∷ pos 0 ∷ pos 9 ∷ [];
       sums = negsuc 4 ∷ negsuc 12 ∷ pos 13 ∷ pos 9 ∷ [];
     }
@@ -618,7 +705,7 @@ one-night =
 abbrev pub two-nights : World
 two-nights =
     record {
-      campaign = filed (filed (fresh 2 3 2) 1 standing 0 1 1) 2 standing 1 2 2;
+      campaign = filed (filed (fresh 2 3 2 awayFromZero) 1 standing 0 1 1) 2 standing 1 2 2;
       store = negsuc 4 ∷ negsuc 12 ∷ pos 13 ∷ negsuc 5 ∷ negsuc 5 ∷ pos 4 ∷ pos 9 ∷ [];
       sums = negsuc 10 ∷ negsuc 18 ∷ pos 17 ∷ pos 9 ∷ [];
     }
@@ -629,7 +716,7 @@ one-dead = record { campaign = marked (two-nights .campaign) 3 dead; store = two
 abbrev pub one-left : World
 one-left =
     record {
-      campaign = filed (filed (filed (fresh 2 3 2) 1 standing 0 1 1) 2 standing 1 2 2) 1 withdrawn 0 0 0;
+      campaign = filed (filed (filed (fresh 2 3 2 awayFromZero) 1 standing 0 1 1) 2 standing 1 2 2) 1 withdrawn 0 0 0;
       store = pos 0 ∷ pos 0 ∷ pos 0 ∷ negsuc 5 ∷ negsuc 5 ∷ pos 4 ∷ pos 9 ∷ [];
       sums = negsuc 5 ∷ negsuc 5 ∷ pos 4 ∷ pos 9 ∷ [];
     }
@@ -643,9 +730,9 @@ abbrev pub half-zeros : List ℕ
 half-zeros = 0 ∷ 0 ∷ 0 ∷ 9 ∷ 9 ∷ 9 ∷ []
 
 pub record Witness : Type 0 where
-  pub started : startOutcome (lent .campaign) 2 3 2 (lent .store) (lent .sums) .0 .answer .number ≡ 0
-  pub begins : run lent (call.start 2 3 2 ∷ []) ≡ began
-  pub first-night : (answer began (call.enter 1 period night-1) ≡ 0) × (run lent (call.enter 1 period night-1 ∷ call.start 2 3 2 ∷ []) ≡ one-night)
+  pub started : startOutcome (lent .campaign) 2 3 2 awayFromZero (lent .store) (lent .sums) .0 .answer .number ≡ 0
+  pub begins : run lent (call.start 2 3 2 awayFromZero ∷ []) ≡ began
+  pub first-night : (answer began (call.enter 1 period night-1) ≡ 0) × (run lent (call.enter 1 period night-1 ∷ call.start 2 3 2 awayFromZero ∷ []) ≡ one-night)
   pub second-judged : judgeOutcome 2 3 (capture 2) night-2 ≡ record { verdict = judged.Kept; period = 3 }
   pub second-night : (answer one-night (call.file 2 (capture 2) night-2 (handed judged.Kept)) ≡ 0) × (run lent nights ≡ two-nights)
   -- another verdict is refused, and all is as it was
@@ -660,19 +747,20 @@ pub record Witness : Type 0 where
       × (made lent (call.withdraw 1 ∷ nights) 3 ≡ unseen)
   pub second : asked one-left ≡ (0, pos 24 ∷ pos 4 ∷ pos 4 ∷ pos 9 ∷ [], pos 3 ∷ pos 1 ∷ pos 1 ∷ [], replicate 4 (pos 0), half-zeros)
   -- a start refused with 4 tells after how many steps the register returns
-  pub short-start : startOutcome (lent .campaign) 4 15 2 (lent .store) (lent .sums)
+  pub short-start : startOutcome (lent .campaign) 4 15 2 awayFromZero (lent .store) (lent .sums)
       ≡ (record { answer = record { number = 4; period = 5 }; campaign = lent .campaign }, lent .store, lent .sums)
   -- a refused start leaves the campaign, an accepted one begins another
-  pub refused-start : (answer two-nights (call.start 17 3 2) ≡ 1) × (after two-nights (call.start 17 3 2) ≡ two-nights)
-  pub new-start : (answer two-nights (call.start 2 3 1) ≡ 0)
-      × (after two-nights (call.start 2 3 1)
+  pub refused-start : (answer two-nights (call.start 17 3 2 awayFromZero) ≡ 1) × (after two-nights (call.start 17 3 2 awayFromZero) ≡ two-nights)
+  pub no-edition : (answer two-nights (call.start 2 3 2 3) ≡ 24) × (after two-nights (call.start 2 3 2 3) ≡ two-nights)
+  pub new-start : (answer two-nights (call.start 2 3 1 toEven) ≡ 0)
+      × (after two-nights (call.start 2 3 1 toEven)
       ≡ record {
-        campaign = fresh 2 3 1;
+        campaign = fresh 2 3 1 toEven;
         store = pos 0 ∷ pos 0 ∷ pos 0 ∷ negsuc 5 ∷ negsuc 5 ∷ pos 4 ∷ pos 9 ∷ [];
         sums = pos 0 ∷ pos 0 ∷ pos 0 ∷ pos 9 ∷ [];
       })
 
-start-computed : (startOutcome (lent .campaign) 2 3 2 (lent .store) (lent .sums) .0 .answer .number ≡ 0) × (after lent (call.start 2 3 2) ≡ began)
+start-computed : (startOutcome (lent .campaign) 2 3 2 awayFromZero (lent .store) (lent .sums) .0 .answer .number ≡ 0) × (after lent (call.start 2 3 2 awayFromZero) ≡ began)
 unfolding startOutcome register.period seek table put window step dot ones
 start-computed = (refl, refl)
 
@@ -702,7 +790,7 @@ withdrawal-computed : (answer two-nights (call.withdraw 1) ≡ 0) × (after two-
 unfolding withdrawOutcome together tapsAnswer register.period seek some every many total sum table put putAt window step dot ones
 withdrawal-computed = (refl, refl)
 
-led : (run lent (call.start 2 3 2 ∷ []) ≡ began) × (run lent (call.enter 1 period night-1 ∷ call.start 2 3 2 ∷ []) ≡ one-night)
+led : (run lent (call.start 2 3 2 awayFromZero ∷ []) ≡ began) × (run lent (call.enter 1 period night-1 ∷ call.start 2 3 2 awayFromZero ∷ []) ≡ one-night)
     × (run lent nights ≡ two-nights) × (run lent (call.withdraw 1 ∷ nights) ≡ one-left)
 unfolding run
 led =
@@ -712,7 +800,7 @@ led =
     (a, b, c, ap (λ w. after w (call.withdraw 1)) c ∙ withdrawal-computed .1)
 
 pub witness : Witness
-unfolding startOutcome responseOutcome together tapsAnswer register.period seek some every many total sum sign table put nearest formula.response formula.correlation wave bit window step dot ones
+unfolding startOutcome responseOutcome together tapsAnswer register.period seek some every many total sum sign table put nearest nearestIn formula.response formula.correlation wave bit window step dot ones
 witness =
     record {
       started = start-computed .0;
@@ -728,10 +816,11 @@ witness =
       second = refl;
       short-start = refl;
       refused-start = (refl, refl);
+      no-edition = (refl, refl);
       new-start = (refl, refl);
     }
   where
     day : (d : ℕ) → 1 ≤ d → d ≤ 366 → made lent (call.withdraw 1 ∷ nights) d ≡ state (one-left .campaign) d
     day d a b =
-        sym (demand-3 lent 2 3 2 (start-computed .0) (call.withdraw 1 ∷ call.file 2 (capture 2) night-2 (handed judged.Kept) ∷ call.judge 2 3 (capture 2) night-2 ∷ call.enter 1 period night-1 ∷ []) .each-day d a b)
+        sym (demand-3 lent 2 3 2 awayFromZero (start-computed .0) (call.withdraw 1 ∷ call.file 2 (capture 2) night-2 (handed judged.Kept) ∷ call.judge 2 3 (capture 2) night-2 ∷ call.enter 1 period night-1 ∷ []) .each-day d a b)
         ∙ ap (λ w. state (w .campaign) d) (led .3)

@@ -83,24 +83,24 @@ pub predict-in-room-determined : Determined 4 predict-in-room-kinds.ps predict-i
 predict-in-room-determined κs a x y s t p q = same-told (a .0) (a .1 .0) (now (a .1 .1 .1 .1 .1 .0)) (λ (o : ℕ × List ℤ × List ℤ). o .0) p q
 
 pub start-determined : Determined 6 start-kinds.ps start-kinds.r ((ℕ × List ℕ × List ℕ × List ℕ × List ℤ × List ℤ) × ℕ) start.Learnt
-    (λ κs r s. ((r, now (s .1 .1 .1 .0), now (s .1 .1 .1 .1 .0), now (s .1 .1 .1 .1 .1 .0), now (s .1 .1 .1 .1 .1 .1 .0), now (s .1 .1 .1 .1 .1 .1 .1 .0)), now (s .1 .1 .1 .1 .1 .1 .1 .1 .0)))
+    (λ κs r s. ((r, now (s .1 .1 .1 .1 .0), now (s .1 .1 .1 .1 .1 .0), now (s .1 .1 .1 .1 .1 .1 .0), now (s .1 .1 .1 .1 .1 .1 .1 .0), now (s .1 .1 .1 .1 .1 .1 .1 .1 .0)), now (s .1 .1 .1 .1 .1 .1 .1 .1 .1 .0)))
 start-determined κs a x y s t p q =
-    same-told (a .0) (a .1 .0) (now (a .1 .1 .1 .1 .1 .1 .1 .1 .0)) (λ (o : ℕ × List ℕ × List ℕ × List ℕ × List ℤ × List ℤ). o .0) p q
+    same-told (a .0) (a .1 .0) (now (a .1 .1 .1 .1 .1 .1 .1 .1 .1 .0)) (λ (o : ℕ × List ℕ × List ℕ × List ℕ × List ℤ × List ℤ). o .0) p q
 
 pub enter-determined : Determined 8 enter-kinds.ps enter-kinds.r (ℕ × List ℕ × List ℕ × List ℕ × List ℤ × List ℤ × ℕ × ℕ) enter.Learnt
-    (λ κs r s. (r, now (s .1 .1 .1 .0), now (s .1 .1 .1 .1 .0), now (s .1 .1 .1 .1 .1 .0), now (s .1 .1 .1 .1 .1 .1 .0), now (s .1 .1 .1 .1 .1 .1 .1 .0), now (s .1 .1 .1 .1 .1 .1 .1 .1 .1 .1 .0), now (s .1 .1 .1 .1 .1 .1 .1 .1 .1 .1 .1 .0)))
+    (λ κs r s. (r, now (s .1 .1 .1 .1 .0), now (s .1 .1 .1 .1 .1 .0), now (s .1 .1 .1 .1 .1 .1 .0), now (s .1 .1 .1 .1 .1 .1 .1 .0), now (s .1 .1 .1 .1 .1 .1 .1 .1 .0), now (s .1 .1 .1 .1 .1 .1 .1 .1 .1 .1 .1 .0), now (s .1 .1 .1 .1 .1 .1 .1 .1 .1 .1 .1 .1 .0)))
 enter-determined κs a x y s t p q = p ∙ sym q
 
 pub capture-determined : Determined 8 capture-kinds.ps capture-kinds.r (ℕ × List ℕ × List ℕ × List ℕ × List ℤ × List ℤ × ℕ × ℕ) capture.Learnt
-    (λ κs r s. (r, now (s .1 .1 .1 .0), now (s .1 .1 .1 .1 .0), now (s .1 .1 .1 .1 .1 .0), now (s .1 .1 .1 .1 .1 .1 .0), now (s .1 .1 .1 .1 .1 .1 .1 .0), now (s .1 .1 .1 .1 .1 .1 .1 .1 .1 .1 .1 .0), now (s .1 .1 .1 .1 .1 .1 .1 .1 .1 .1 .1 .1 .0)))
+    (λ κs r s. (r, now (s .1 .1 .1 .1 .0), now (s .1 .1 .1 .1 .1 .0), now (s .1 .1 .1 .1 .1 .1 .0), now (s .1 .1 .1 .1 .1 .1 .1 .0), now (s .1 .1 .1 .1 .1 .1 .1 .1 .0), now (s .1 .1 .1 .1 .1 .1 .1 .1 .1 .1 .1 .1 .0), now (s .1 .1 .1 .1 .1 .1 .1 .1 .1 .1 .1 .1 .1 .0)))
 capture-determined κs a x y s t p q = p ∙ sym q
 
 pub file-determined : Determined 8 file-kinds.ps file-kinds.r (ℕ × List ℕ × List ℕ × List ℕ × List ℤ × List ℤ × ℕ × ℕ) file.Learnt
-    (λ κs r s. (r, now (s .1 .1 .1 .0), now (s .1 .1 .1 .1 .0), now (s .1 .1 .1 .1 .1 .0), now (s .1 .1 .1 .1 .1 .1 .0), now (s .1 .1 .1 .1 .1 .1 .1 .0), now (s .1 .1 .1 .1 .1 .1 .1 .1 .1 .1 .1 .1 .0), now (s .1 .1 .1 .1 .1 .1 .1 .1 .1 .1 .1 .1 .1 .0)))
+    (λ κs r s. (r, now (s .1 .1 .1 .1 .0), now (s .1 .1 .1 .1 .1 .0), now (s .1 .1 .1 .1 .1 .1 .0), now (s .1 .1 .1 .1 .1 .1 .1 .0), now (s .1 .1 .1 .1 .1 .1 .1 .1 .0), now (s .1 .1 .1 .1 .1 .1 .1 .1 .1 .1 .1 .1 .1 .0), now (s .1 .1 .1 .1 .1 .1 .1 .1 .1 .1 .1 .1 .1 .1 .0)))
 file-determined κs a x y s t p q = p ∙ sym q
 
 pub file-capture-determined : Determined 8 file-capture-kinds.ps file-capture-kinds.r (ℕ × List ℕ × List ℕ × List ℕ × List ℤ × List ℤ × ℕ × ℕ) file-capture.Learnt
-    (λ κs r s. (r, now (s .1 .1 .1 .0), now (s .1 .1 .1 .1 .0), now (s .1 .1 .1 .1 .1 .0), now (s .1 .1 .1 .1 .1 .1 .0), now (s .1 .1 .1 .1 .1 .1 .1 .0), now (s .1 .1 .1 .1 .1 .1 .1 .1 .1 .1 .1 .1 .1 .0), now (s .1 .1 .1 .1 .1 .1 .1 .1 .1 .1 .1 .1 .1 .1 .0)))
+    (λ κs r s. (r, now (s .1 .1 .1 .1 .0), now (s .1 .1 .1 .1 .1 .0), now (s .1 .1 .1 .1 .1 .1 .0), now (s .1 .1 .1 .1 .1 .1 .1 .0), now (s .1 .1 .1 .1 .1 .1 .1 .1 .0), now (s .1 .1 .1 .1 .1 .1 .1 .1 .1 .1 .1 .1 .1 .1 .0), now (s .1 .1 .1 .1 .1 .1 .1 .1 .1 .1 .1 .1 .1 .1 .1 .0)))
 file-capture-determined κs a x y s t p q = p ∙ sym q
 
 pub judge-determined : Determined 4 judge-kinds.ps judge-kinds.r ((ℕ × ℕ × ℕ) × ℕ) judge.Learnt
@@ -112,14 +112,14 @@ pub judge-capture-determined : Determined 4 judge-capture-kinds.ps judge-capture
 judge-capture-determined κs a x y s t p q = same-told (a .0) (a .1 .0) (now (a .1 .1 .1 .1 .1 .1 .0)) (λ (o : ℕ × ℕ × ℕ). o .0) p q
 
 pub withdraw-determined : Determined 5 withdraw-kinds.ps withdraw-kinds.r (ℕ × List ℕ × List ℕ × List ℕ × List ℤ × List ℤ) withdraw.Learnt
-    (λ κs r s. (r, now (s .1 .1 .1 .0), now (s .1 .1 .1 .1 .0), now (s .1 .1 .1 .1 .1 .0), now (s .1 .1 .1 .1 .1 .1 .0), now (s .1 .1 .1 .1 .1 .1 .1 .0)))
+    (λ κs r s. (r, now (s .1 .1 .1 .1 .0), now (s .1 .1 .1 .1 .1 .0), now (s .1 .1 .1 .1 .1 .1 .0), now (s .1 .1 .1 .1 .1 .1 .1 .0), now (s .1 .1 .1 .1 .1 .1 .1 .1 .0)))
 withdraw-determined κs a x y s t p q = p ∙ sym q
 
-pub counts-determined : Determined 10 counts-kinds.ps counts-kinds.r (ℕ × Tally) counts.Learnt (λ κs r s. (r, record { unseen = now (s .1 .1 .1 .1 .1 .1 .1 .1 .0); standing = now (s .1 .1 .1 .1 .1 .1 .1 .1 .1 .0); overloaded = now (s .1 .1 .1 .1 .1 .1 .1 .1 .1 .1 .0); dead = now (s .1 .1 .1 .1 .1 .1 .1 .1 .1 .1 .1 .0); withdrawn = now (s .1 .1 .1 .1 .1 .1 .1 .1 .1 .1 .1 .1 .0) }))
+pub counts-determined : Determined 10 counts-kinds.ps counts-kinds.r (ℕ × Tally) counts.Learnt (λ κs r s. (r, record { unseen = now (s .1 .1 .1 .1 .1 .1 .1 .1 .1 .0); standing = now (s .1 .1 .1 .1 .1 .1 .1 .1 .1 .1 .0); overloaded = now (s .1 .1 .1 .1 .1 .1 .1 .1 .1 .1 .1 .0); dead = now (s .1 .1 .1 .1 .1 .1 .1 .1 .1 .1 .1 .1 .0); withdrawn = now (s .1 .1 .1 .1 .1 .1 .1 .1 .1 .1 .1 .1 .1 .0) }))
 counts-determined κs a x y s t p q = p ∙ sym q
 
-pub response-determined : Determined 9 response-kinds.ps response-kinds.r (ℕ × List ℤ × List ℤ × List ℤ × List ℕ) response.Learnt (λ κs r s. (r, now (s .1 .1 .1 .1 .1 .1 .1 .1 .0), now (s .1 .1 .1 .1 .1 .1 .1 .1 .1 .0), now (s .1 .1 .1 .1 .1 .1 .1 .1 .1 .1 .0), now (s .1 .1 .1 .1 .1 .1 .1 .1 .1 .1 .1 .0)))
+pub response-determined : Determined 9 response-kinds.ps response-kinds.r (ℕ × List ℤ × List ℤ × List ℤ × List ℕ) response.Learnt (λ κs r s. (r, now (s .1 .1 .1 .1 .1 .1 .1 .1 .1 .0), now (s .1 .1 .1 .1 .1 .1 .1 .1 .1 .1 .0), now (s .1 .1 .1 .1 .1 .1 .1 .1 .1 .1 .1 .0), now (s .1 .1 .1 .1 .1 .1 .1 .1 .1 .1 .1 .1 .0)))
 response-determined κs a x y s t p q = p ∙ sym q
 
-pub summary-determined : Determined 11 summary-kinds.ps summary-kinds.r (ℕ × List ℤ × List ℕ × ℕ × Levels) summary.Learnt (λ κs r s. (r, now (s .1 .1 .1 .1 .1 .1 .1 .1 .0), now (s .1 .1 .1 .1 .1 .1 .1 .1 .1 .0), now (s .1 .1 .1 .1 .1 .1 .1 .1 .1 .1 .0), record { highest = now (s .1 .1 .1 .1 .1 .1 .1 .1 .1 .1 .1 .0); lowest = now (s .1 .1 .1 .1 .1 .1 .1 .1 .1 .1 .1 .1 .0); peak = now (s .1 .1 .1 .1 .1 .1 .1 .1 .1 .1 .1 .1 .1 .0) }))
+pub summary-determined : Determined 11 summary-kinds.ps summary-kinds.r (ℕ × List ℤ × List ℕ × ℕ × Levels) summary.Learnt (λ κs r s. (r, now (s .1 .1 .1 .1 .1 .1 .1 .1 .1 .0), now (s .1 .1 .1 .1 .1 .1 .1 .1 .1 .1 .0), now (s .1 .1 .1 .1 .1 .1 .1 .1 .1 .1 .1 .0), record { highest = now (s .1 .1 .1 .1 .1 .1 .1 .1 .1 .1 .1 .1 .0); lowest = now (s .1 .1 .1 .1 .1 .1 .1 .1 .1 .1 .1 .1 .1 .0); peak = now (s .1 .1 .1 .1 .1 .1 .1 .1 .1 .1 .1 .1 .1 .1 .0) }))
 summary-determined κs a x y s t p q = p ∙ sym q

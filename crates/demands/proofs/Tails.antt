@@ -116,14 +116,14 @@ module _ (c : Campaign) (store sums room : List ℤ) (tags : List ℕ) where
 
 -- ---- a start
 
-module _ (c : Campaign) (N taps C : ℕ) (store sums : List ℤ) where
+module _ (c : Campaign) (N taps C E : ℕ) (store sums : List ℤ) where
   abbrev BegunTails : Started × List ℤ × List ℤ → Type 0
   BegunTails o = KeepsTail (C * P N) store (o .1) × KeepsTail (P N) sums (o .2)
 
-  pub start-tails : BegunTails (startOutcome c N taps C store sums)
+  pub start-tails : BegunTails (startOutcome c N taps C E store sums)
   unfolding startOutcome
   start-tails =
-      either-way (startOutcome c N taps C store sums) (startChecks N taps C store sums) _ _ refl BegunTails
+      either-way (startOutcome c N taps C E store sums) (startChecks N taps C E store sums) _ _ refl BegunTails
       (λ n. (same refl, same refl)) (written _ _ _, written _ _ _)
 
 -- ---- a filing and a withdrawal: the store's tail, where a slot is filled or emptied

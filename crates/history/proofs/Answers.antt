@@ -63,11 +63,11 @@ not-fifteen (check ∷ checks) e t h = not-first 15 checks t (sym (ap (λ x. con
 module _ (w : World) (t : together (w .campaign) (w .store) (w .sums) ≡ true) where
   pub never-fifteen : (call : Call) → answer w call ≡ 15 → ⊥
   unfolding startOutcome withdrawOutcome countsOutcome responseOutcome summaryOutcome
-  never-fifteen (start N taps C) =
-      outcome-cases {A = Started × List ℤ × List ℤ} (startChecks N taps C (w .store) (w .sums)) tt
+  never-fifteen (start N taps C E) =
+      outcome-cases {A = Started × List ℤ × List ℤ} (startChecks N taps C E (w .store) (w .sums)) tt
       (λ n. (record { answer = answerOf N taps n; campaign = w .campaign }, w .store, w .sums))
-      (record { answer = answerOf N taps 0; campaign = fresh N taps C }, clearedWide (C * P N) (w .store), clearedWide (P N) (w .sums)) (λ o. o .0 .answer .number ≡ 15 → ⊥)
-      (λ n _ h g. not-first 15 (startChecks N taps C (w .store) (w .sums)) tt (h ∙ g)) (λ _ g. omega arith)
+      (record { answer = answerOf N taps 0; campaign = fresh N taps C E }, clearedWide (C * P N) (w .store), clearedWide (P N) (w .sums)) (λ o. o .0 .answer .number ≡ 15 → ⊥)
+      (λ n _ h g. not-first 15 (startChecks N taps C E (w .store) (w .sums)) tt (h ∙ g)) (λ _ g. omega arith)
   never-fifteen (judge N taps night y) = λ h. not-first 15 (judgeChecks N taps night y) tt (sym (judge-first N taps night y) ∙ h)
   never-fifteen (file d night y s) =
       let v = shownTo (w .campaign) night y s in

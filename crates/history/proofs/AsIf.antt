@@ -94,7 +94,7 @@ module _ (w₀ : World) (cs : List Call) (started : underWay w₀ cs ≡ true) (
   further {calls} o call n = record { going = stays-under-way w₀ call calls (o .going); same = same-campaign w₀ call calls n ∙ o .same }
 
   no-start : (call : Call) → names call d ≡ false → starts call ≡ false
-  no-start (start N taps C) e = e
+  no-start (start N taps C E) e = e
   no-start (judge N taps other z) _ = refl
   no-start (file e other z u) _ = refl
   no-start (withdraw e) _ = refl
@@ -139,7 +139,7 @@ module _ (w₀ : World) (cs : List Call) (started : underWay w₀ cs ≡ true) (
     -- a call makes the same of a day, and leaves the same recording, in both
     same-makes : (call : Call) → makes (run w₀ a) call ≡ makes (run w₀ b) call
     unfolding campaign-a campaign-b
-    same-makes (start N taps C) = refl
+    same-makes (start N taps C E) = refl
     same-makes (judge N taps v z) = refl
     same-makes (file e v z u) = ap (λ o. stateOf (finding (settled (P o) v z))) same-order
     same-makes (withdraw e) = refl
@@ -149,7 +149,7 @@ module _ (w₀ : World) (cs : List Call) (started : underWay w₀ cs ≡ true) (
 
     same-recording : (call : Call) (x : Heard) → recording (run w₀ a) call x ≡ recording (run w₀ b) call x
     unfolding campaign-a campaign-b
-    same-recording (start N taps C) x = refl
+    same-recording (start N taps C E) x = refl
     same-recording (judge N taps v z) x = refl
     same-recording (file e v z u) x = ap (λ o. record { periods = periodsOf v; samples = settled (P o) v z }) same-order
     same-recording (withdraw e) x = refl
@@ -217,7 +217,7 @@ module _ (w₀ : World) (cs : List Call) (started : underWay w₀ cs ≡ true) (
       same-accepted e p n t = ap (λ k. eqb k 0) (go call other twelve t)
         where
           go : (k : Call) → names k d ≡ false → (answer (run w₀ a) k ≡ 12 → ⊥) → names k e ≡ true → answer (run w₀ a) k ≡ answer (run w₀ b) k
-          go (start N taps C) o h u = absurd (subst T o tt)
+          go (start N taps C E) o h u = absurd (subst T o tt)
           go (judge N taps v z) _ h u = absurd (subst T (sym u) tt)
           go (file g v z x) _ h u =
               let q = eqb-true g e u in

@@ -23,41 +23,42 @@ replicated zero i = refl
 replicated (suc n) zero = refl
 replicated (suc n) (suc i) = replicated n i
 
-pub begun-sized : (N taps C : ℕ) → Sized (fresh N taps C)
-begun-sized N taps C = record { days = length-replicate {A = ℕ} 366 0; slots = length-replicate {A = ℕ} 64 0; periods = length-replicate {A = ℕ} 64 0 }
+pub begun-sized : (N taps C E : ℕ) → Sized (fresh N taps C E)
+begun-sized N taps C E = record { days = length-replicate {A = ℕ} 366 0; slots = length-replicate {A = ℕ} 64 0; periods = length-replicate {A = ℕ} 64 0 }
 
-pub begun-state : (N taps C d : ℕ) → state (fresh N taps C) d ≡ unseen
-begun-state N taps C d = replicated 366 (d - 1)
+pub begun-state : (N taps C E d : ℕ) → state (fresh N taps C E) d ≡ unseen
+begun-state N taps C E d = replicated 366 (d - 1)
 
-pub begun-slot : (N taps C s : ℕ) → slot (fresh N taps C) s ≡ 0
-begun-slot N taps C s = replicated 64 s
+pub begun-slot : (N taps C E s : ℕ) → slot (fresh N taps C E) s ≡ 0
+begun-slot N taps C E s = replicated 64 s
 
-pub begun-together : (N taps C : ℕ) (store sums : List ℤ) → Begins N taps C store sums
-    → Together (fresh N taps C) (clearedWide (C * P N) store) (clearedWide (P N) sums)
-begun-together N taps C store sums b =
+pub begun-together : (N taps C E : ℕ) (store sums : List ℤ) → Begins N taps C E store sums
+    → Together (fresh N taps C E) (clearedWide (C * P N) store) (clearedWide (P N) sums)
+begun-together N taps C E store sums b =
     record {
       filed = record {
         accepted = b .accepted;
         least = b .least;
         most = b .most;
-        states = λ i l. omega (arith, begun-state N taps C (i + 1));
-        past = λ s l h. begun-slot N taps C s;
-        named = λ s l u. absurd (u (begun-slot N taps C s));
+        states = λ i l. omega (arith, begun-state N taps C E (i + 1));
+        past = λ s l h. begun-slot N taps C E s;
+        named = λ s l u. absurd (u (begun-slot N taps C E s));
         one = λ i l e. absurd (never i e);
-        counted = λ s l u. absurd (u (begun-slot N taps C s));
+        counted = λ s l u. absurd (u (begun-slot N taps C E s));
         uncounted = λ s l e. replicated 64 s;
       };
+      edition = b .edition;
       store-long = rw (length-put (table (C * P N) (λ _. pos 0)) store (omega (arith, length-table (C * P N) (λ _. pos 0), b .store-long))) (b .store-long);
       sums-long = rw (length-put (table (P N) (λ _. pos 0)) sums (omega (arith, length-table (P N) (λ _. pos 0), b .sums-long))) (b .sums-long);
-      used = λ s l u. absurd (u (begun-slot N taps C s));
+      used = λ s l u. absurd (u (begun-slot N taps C E s));
       zeros = λ s l e j h. at-put (C * P N) (λ _. pos 0) store (s * P N + j) (pos 0) (omega (arith, mul-le-mul-right (P N) l, suc-mul s (P N)));
       total = λ j h. at-put (P N) (λ _. pos 0) sums j (pos 0) h ∙ sym (none j);
     }
   where
-    never : (i : ℕ) → state (fresh N taps C) (i + 1) ≡ standing → ⊥
-    never i e = omega (arith, begun-state N taps C (i + 1))
+    never : (i : ℕ) → state (fresh N taps C E) (i + 1) ≡ standing → ⊥
+    never i e = omega (arith, begun-state N taps C E (i + 1))
 
-    none : (j : ℕ) → usedTotal (fresh N taps C) (clearedWide (C * P N) store) j ≡ pos 0
+    none : (j : ℕ) → usedTotal (fresh N taps C E) (clearedWide (C * P N) store) j ≡ pos 0
     none j =
-        sum-ext C (λ s _. ap (λ b. cond b (pos 0) (sample (fresh N taps C) (clearedWide (C * P N) store) s j)) (eq-eqb (slot (fresh N taps C) s) 0 (begun-slot N taps C s)))
+        sum-ext C (λ s _. ap (λ b. cond b (pos 0) (sample (fresh N taps C E) (clearedWide (C * P N) store) s j)) (eq-eqb (slot (fresh N taps C E) s) 0 (begun-slot N taps C E s)))
         ∙ sum-zero C

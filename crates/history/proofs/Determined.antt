@@ -116,7 +116,7 @@ judge-determined κs a x y s t p q = p ∙ sym q
 
 -- ---- campaign
 
-pub start-determined : Determined 2 start-kinds.ps start-kinds.r (Started × List ℤ × List ℤ) start.Learnt (λ κs r s. (r, now (s .1 .1 .1 .1 .0), now (s .1 .1 .1 .1 .1 .0)))
+pub start-determined : Determined 2 start-kinds.ps start-kinds.r (Started × List ℤ × List ℤ) start.Learnt (λ κs r s. (r, now (s .1 .1 .1 .1 .1 .0), now (s .1 .1 .1 .1 .1 .1 .0)))
 start-determined κs a x y s t p q = p ∙ sym q
 
 pub file-determined : Determined 3 file-kinds.ps file-kinds.r (Entered × List ℤ × List ℤ) file.Learnt (λ κs r s. (r, now (s .1 .0), now (s .1 .1 .0)))

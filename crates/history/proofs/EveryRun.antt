@@ -51,8 +51,8 @@ module _ (w₀ : World) (cs : List Call) (started : underWay w₀ cs ≡ true) w
 
   -- ---- 0. The record is that of the last accepted start: its order, taps and slot count.
 
-  pub same-order : (w .campaign .order ≡ N) × (w .campaign .taps ≡ taps) × (w .campaign .capacity ≡ begun w₀ cs .capacity)
-  same-order = (history .order, history .taps, history .capacity)
+  pub same-order : (w .campaign .order ≡ N) × (w .campaign .taps ≡ taps) × (w .campaign .capacity ≡ begun w₀ cs .capacity) × (w .campaign .edition ≡ begun w₀ cs .edition)
+  same-order = (history .order, history .taps, history .capacity, history .edition)
 
   -- ---- 1. The record holds together, so no call of the run answers 15.
 

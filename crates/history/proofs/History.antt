@@ -36,6 +36,7 @@ pub record Says (c₀ c : Campaign) (store sums : List ℤ) (states : ℕ → �
   pub order : c .order ≡ c₀ .order
   pub taps : c .taps ≡ c₀ .taps
   pub capacity : c .capacity ≡ c₀ .capacity
+  pub edition : c .edition ≡ c₀ .edition
   pub sized : Sized c
   pub holds : Together c store sums
   pub days : (d : ℕ) → Day d → state c d ≡ states d
@@ -50,6 +51,7 @@ says-ext {c = c} t e q s =
       order = s .order ∙ ap (λ (x : Campaign). x .order) t;
       taps = s .taps ∙ ap (λ (x : Campaign). x .taps) t;
       capacity = s .capacity ∙ ap (λ (x : Campaign). x .capacity) t;
+      edition = s .edition ∙ ap (λ (x : Campaign). x .edition) t;
       sized = s .sized;
       holds = s .holds;
       days = λ d r. s .days d r ∙ e d;
@@ -82,6 +84,7 @@ module _ {c₀ c : Campaign} {store sums : List ℤ} {f : ℕ → ℕ} {h : ℕ 
         order = s .order;
         taps = s .taps;
         capacity = s .capacity;
+        edition = s .edition;
         sized = sized-marked c (s .sized) d q r;
         holds = together-marked c store sums (s .sized) d q r (s .holds) n a b;
         days = λ e p. elim (ℕ-discrete e d) [
@@ -107,6 +110,7 @@ module _ {c₀ c : Campaign} {store sums : List ℤ} {f : ℕ → ℕ} {h : ℕ 
         order = s .order;
         taps = s .taps;
         capacity = s .capacity;
+        edition = s .edition;
         sized = sized-filed c (s .sized) d standing r k d m;
         holds = together-kept c store sums (s .sized) d k m r (s .holds) l e n least most z long good;
         days = λ g p. elim (ℕ-discrete g d) [
@@ -151,6 +155,7 @@ module _ {c₀ c : Campaign} {store sums : List ℤ} {f : ℕ → ℕ} {h : ℕ 
         order = s .order;
         taps = s .taps;
         capacity = s .capacity;
+        edition = s .edition;
         sized = sized-filed c (s .sized) d withdrawn r k 0 0;
         holds = together-withdrawn c store sums (s .sized) d k r (s .holds) l e v;
         days = λ g p. elim (ℕ-discrete g d) [
@@ -210,32 +215,33 @@ says-asked w cs call s n k e =
     (λ d. sym (ap (λ b. cond (b && accepted (run w cs) call) (recording (run w cs) call (heard w cs d)) (heard w cs d)) (n d))) s)
 
 -- an accepted start, whatever came before it
-anew : (N taps C : ℕ) (store sums : List ℤ) → Begins N taps C store sums
-    → Says (fresh N taps C) (fresh N taps C) (clearedWide (C * P N) store) (clearedWide (P N) sums) (λ d. unseen) (λ d. nothing)
-anew N taps C store sums b =
+anew : (N taps C E : ℕ) (store sums : List ℤ) → Begins N taps C E store sums
+    → Says (fresh N taps C E) (fresh N taps C E) (clearedWide (C * P N) store) (clearedWide (P N) sums) (λ d. unseen) (λ d. nothing)
+anew N taps C E store sums b =
     record {
       order = refl;
       taps = refl;
       capacity = refl;
-      sized = begun-sized N taps C;
-      holds = begun-together N taps C store sums b;
-      days = λ d r. begun-state N taps C d;
-      slot-hears = λ s l u. absurd (u (begun-slot N taps C s));
-      slot-counts = λ s l u. absurd (u (begun-slot N taps C s));
+      edition = refl;
+      sized = begun-sized N taps C E;
+      holds = begun-together N taps C E store sums b;
+      days = λ d r. begun-state N taps C E d;
+      slot-hears = λ s l u. absurd (u (begun-slot N taps C E s));
+      slot-counts = λ s l u. absurd (u (begun-slot N taps C E s));
     }
 
-says-started : (w : World) (cs : List Call) (N taps C : ℕ) → (SaysRun w cs ⊎ (accepted (run w cs) (start N taps C) ≡ true))
-    → Starting (run w cs) N taps C (startOutcome (run w cs .campaign) N taps C (run w cs .store) (run w cs .sums)) → SaysRun w (start N taps C ∷ cs)
+says-started : (w : World) (cs : List Call) (N taps C E : ℕ) → (SaysRun w cs ⊎ (accepted (run w cs) (start N taps C E) ≡ true))
+    → Starting (run w cs) N taps C E (startOutcome (run w cs .campaign) N taps C E (run w cs .store) (run w cs .sums)) → SaysRun w (start N taps C E ∷ cs)
 unfolding run begun made heard
-says-started w cs N taps C (inl s) (steps.refused n e g i) = says-refused w cs (start N taps C) s (ne-eqb (answer (run w cs) (start N taps C)) 0 n) (rw (e, g, i))
-says-started w cs N taps C (inr a) (steps.refused n e g i) = absurd (n (eqb-true (answer (run w cs) (start N taps C)) 0 a))
-says-started w cs N taps C p (steps.began a b e g i) =
-    let t = eq-eqb (answer (run w cs) (start N taps C)) 0 a in
+says-started w cs N taps C E (inl s) (steps.refused n e g i) = says-refused w cs (start N taps C E) s (ne-eqb (answer (run w cs) (start N taps C E)) 0 n) (rw (e, g, i))
+says-started w cs N taps C E (inr a) (steps.refused n e g i) = absurd (n (eqb-true (answer (run w cs) (start N taps C E)) 0 a))
+says-started w cs N taps C E p (steps.began a b e g i) =
+    let t = eq-eqb (answer (run w cs) (start N taps C E)) 0 a in
     rw (e, g, i)
-    (says-ext (ap (λ b. cond b (fresh N taps C) (begun w cs)) (sym t))
+    (says-ext (ap (λ b. cond b (fresh N taps C E) (begun w cs)) (sym t))
     (λ d. ap (λ b. cond b unseen (made w cs d)) (sym t))
     (λ d. ap (λ b. cond b nothing (heard w cs d)) (sym t))
-    (anew N taps C (run w cs .store) (run w cs .sums) b))
+    (anew N taps C E (run w cs .store) (run w cs .sums) b))
 
 module _ (w : World) (cs : List Call) (s : SaysRun w cs) where
   now : World
@@ -276,7 +282,7 @@ module _ (w : World) (cs : List Call) (s : SaysRun w cs) where
       (says-withdrawn s d k r v l f))
 
   pub says-after : (call : Call) → SaysRun w (call ∷ cs)
-  says-after (start N taps C) = says-started w cs N taps C (inl s) (starting (run w cs) N taps C)
+  says-after (start N taps C E) = says-started w cs N taps C E (inl s) (starting (run w cs) N taps C E)
   says-after (judge N taps night y) = says-asked w cs (judge N taps night y) s (λ d. refl) (λ c. refl) refl
   says-after (file d night y x) = says-entered d night y x (entering (run w cs) d night y (shownTo (run w cs .campaign) night y x) holding)
   says-after (withdraw d) = says-freed d (withdrawing (run w cs) d holding)
@@ -291,7 +297,7 @@ says w [] u = absurd (subst T (sym u) tt)
 says w (call ∷ cs) u = go (λ e. says w cs e) (underWay w cs) refl
   where
     first-of : (k : Call) → starts k && accepted (run w cs) k ≡ true → SaysRun w (k ∷ cs)
-    first-of (start N taps C) e = says-started w cs N taps C (inr e) (starting (run w cs) N taps C)
+    first-of (start N taps C E) e = says-started w cs N taps C E (inr e) (starting (run w cs) N taps C E)
     first-of (judge N taps night y) e = absurd (subst T (sym e) tt)
     first-of (file d night y x) e = absurd (subst T (sym e) tt)
     first-of (withdraw d) e = absurd (subst T (sym e) tt)

@@ -4,6 +4,7 @@ pub mod Steps
 pub mod Begun
 pub mod History
 pub mod UnderWay
+pub mod KeptEdition
 pub mod Answers
 pub mod EveryRun
 pub mod Undone

@@ -85,6 +85,7 @@ module _ (c : Campaign) (store sums : List ℤ) (w : Sized c) (d q k t ps : ℕ)
   refiled sums′ f same-long good clear added =
       record {
         filed = f;
+        edition = h .edition;
         store-long = rw (store-length c store z k inside-slots (h .store-long) long) (h .store-long);
         sums-long = rw same-long (h .sums-long);
         used = λ s l u j m. elim (ℕ-discrete s k) [
@@ -166,6 +167,7 @@ pub together-marked : (c : Campaign) (store sums : List ℤ) → Sized c → (d 
 together-marked c store sums w d q r h n a b =
     record {
       filed = marked-filed c w d q r (h .filed) n a b;
+      edition = h .edition;
       store-long = h .store-long;
       sums-long = h .sums-long;
       used = h .used;

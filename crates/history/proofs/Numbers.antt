@@ -12,7 +12,7 @@ use Rattle.sums.specs.Lists.{seek, some, every, many, table, put, putAt}
 use Rattle.register.specs.Register.{dot, step, window, bit, wave, period}
 use Rattle.register.specs.Calls.{tapsAnswer}
 use Rattle.response.specs.Response as formula
-use Rattle.rounding.specs.Rounding.{nearest, rounded}
+use Rattle.rounding.specs.Rounding.{awayFromZero, toEven, nearest, nearestIn, rounded}
 use Rattle.finding.specs.Finding.{finding}
 use Rattle.nights.specs.Nights.{term}
 use Rattle.nights.specs.declared.Night.the-variants.{Period, Capture}
@@ -24,9 +24,12 @@ use Rattle.history.specs.Run.{World, enter, withdraw, response, after, a
 use Rattle.campaign.specs.declared.Verdict.{Verdict}
 use Rattle.campaign.specs.declared.Verdict.the-variants.{Kept, Overloaded, Dead, Refused}
 
--- a start of C slots: two, and one
+-- a start of C slots in edition E, and in edition 1: two slots, and one
+abbrev of-edition : ℕ → ℕ → World
+of-edition C E = record { campaign = fresh 3 3 C E; store = replicate 14 (pos 0); sums = replicate 7 (pos 0) }
+
 abbrev of : ℕ → World
-of C = record { campaign = fresh 3 3 C; store = replicate 14 (pos 0); sums = replicate 7 (pos 0) }
+of C = of-edition C awayFromZero
 
 abbrev verdict : World → ℕ → List ℤ → Verdict
 verdict w d y = enterOutcome (w .campaign) (w .store) (w .sums) d Period y .0 .entry .verdict
@@ -44,9 +47,14 @@ with z = z ∷ replicate 6 (pos 0)
 
 -- ---- means
 
-pub means : (rounded (pos 4) 8 ≡ pos 1) × (rounded (negsuc 3) 8 ≡ negsuc 0) × (rounded (negsuc 9) 8 ≡ negsuc 0)
-unfolding nearest
-means = (refl, refl, refl)
+-- 4/8, -4/8, -10/8, 12/8 and -12/8
+abbrev means-in : ℕ → List ℤ
+means-in e = rounded e (pos 4) 8 ∷ rounded e (negsuc 3) 8 ∷ rounded e (negsuc 9) 8 ∷ rounded e (pos 12) 8 ∷ rounded e (negsuc 11) 8 ∷ []
+
+pub means : (means-in awayFromZero ≡ pos 1 ∷ negsuc 0 ∷ negsuc 0 ∷ pos 2 ∷ negsuc 1 ∷ [])
+    × (means-in toEven ≡ pos 0 ∷ pos 0 ∷ negsuc 0 ∷ pos 2 ∷ negsuc 1 ∷ [])
+unfolding nearest nearestIn
+means = (refl, refl)
 
 -- ---- samples and days
 
@@ -94,7 +102,7 @@ entries =
 
 -- whether a record with day 1 in its only slot, of m periods, the day's first sample z and the sums agreeing, holds together
 abbrev holds-with : ℕ → ℤ → Bool
-holds-with m z = together (filed (fresh 3 3 1) 1 standing 0 1 m) (with z) (with z)
+holds-with m z = together (filed (fresh 3 3 1 awayFromZero) 1 standing 0 1 m) (with z) (with z)
 
 pub record InASlot : Type 0 where
   pub under-the-upper-rail : holds-with 1 (pos 8388606) ≡ true
@@ -107,7 +115,7 @@ pub record InASlot : Type 0 where
   -- a used slot has 1 to 16 periods, and a free one none
   pub no-periods : holds-with 0 (pos 0) ≡ false
   pub too-many : holds-with 17 (pos 0) ≡ false
-  pub free-with-periods : together (filed (fresh 3 3 1) 1 standing 1 0 1) (with (pos 0)) (with (pos 0)) ≡ false
+  pub free-with-periods : together (filed (fresh 3 3 1 awayFromZero) 1 standing 1 0 1) (with (pos 0)) (with (pos 0)) ≡ false
 
 pub in-a-slot : InASlot
 unfolding together tapsAnswer period seek every many total sum window step dot ones
@@ -123,6 +131,15 @@ in-a-slot =
       too-many = refl;
       free-with-periods = refl;
     }
+
+-- ---- an edition
+
+abbrev holds-in : ℕ → Bool
+holds-in e = together (fresh 3 3 1 e) (replicate 7 (pos 0)) (replicate 7 (pos 0))
+
+pub editions : (holds-in 0 ≡ false) × (holds-in 1 ≡ true) × (holds-in 2 ≡ true) × (holds-in 3 ≡ false)
+unfolding together tapsAnswer period seek every many total sum window step dot ones
+editions = (refl, refl, refl, refl)
 
 -- ---- the log example
 
@@ -151,8 +168,25 @@ pub record LogExample : Type 0 where
       ≡ (14, replicate 7 (pos 9), replicate 7 (pos 9), replicate 8 (pos 9), replicate 7 9)
 
 pub log-example : LogExample
-unfolding run fileOutcome judgeOutcome term finding withdrawOutcome responseOutcome together tapsAnswer period seek some every many total sum sign table put putAt nearest formula.response formula.correlation wave bit window step dot ones
+unfolding run fileOutcome judgeOutcome term finding withdrawOutcome responseOutcome together tapsAnswer period seek some every many total sum sign table put putAt nearest nearestIn formula.response formula.correlation wave bit window step dot ones
 log-example = record { kept = refl; dead = refl; response = refl; withdrawal = refl; nothing = refl }
+
+-- ---- means at halves, in both editions
+
+abbrev halves : List ℤ
+halves = negsuc 5 ∷ pos 9 ∷ pos 0 ∷ pos 5 ∷ negsuc 0 ∷ negsuc 0 ∷ negsuc 7 ∷ []
+
+-- the answer, r and the mean of a campaign in edition E with that night
+abbrev at-halves : ℕ → ℕ × List ℤ × List ℤ
+at-halves E = let o = asked (run (of-edition 1 E) (enter 1 Period halves ∷ [])) in (o .0, o .1, o .2)
+
+abbrev halves-r : List ℤ
+halves-r = negsuc 3 ∷ negsuc 11 ∷ pos 4 ∷ negsuc 23 ∷ pos 20 ∷ pos 20 ∷ pos 12 ∷ []
+
+pub halves-means : (at-halves awayFromZero ≡ (0, halves-r, negsuc 0 ∷ negsuc 1 ∷ pos 1 ∷ negsuc 2 ∷ pos 3 ∷ pos 3 ∷ pos 2 ∷ []))
+    × (at-halves toEven ≡ (0, halves-r, pos 0 ∷ negsuc 1 ∷ pos 0 ∷ negsuc 2 ∷ pos 2 ∷ pos 2 ∷ pos 2 ∷ []))
+unfolding run fileOutcome judgeOutcome term finding withdrawOutcome responseOutcome together tapsAnswer period seek some every many total sum sign table put putAt nearest nearestIn formula.response formula.correlation wave bit window step dot ones
+halves-means = (refl, refl)
 
 -- ---- captures
 
@@ -194,7 +228,7 @@ pub record Captures : Type 0 where
   pub withdrawal : run (of 2) (withdraw 1 ∷ enter 1 (Capture 2) night ∷ []) .campaign .periods ≡ replicate 64 0
 
 pub captures : Captures
-unfolding run fileOutcome judgeOutcome term finding withdrawOutcome responseOutcome together tapsAnswer period seek some every many total sum sign table put putAt nearest formula.response formula.correlation wave bit window step dot ones
+unfolding run fileOutcome judgeOutcome term finding withdrawOutcome responseOutcome together tapsAnswer period seek some every many total sum sign table put putAt nearest nearestIn formula.response formula.correlation wave bit window step dot ones
 captures =
     record {
       kept = refl;

@@ -22,6 +22,7 @@ use Rattle.judging.specs.Judging.{judgeOutcome}
 use Rattle.judging.specs.declared.Judged.{Judged}
 use Rattle.judging.specs.declared.Judged.the-variants as judged
 use Rattle.judging.proofs.Order as judging
+use Rattle.rounding.specs.Rounding.{awayFromZero}
 use Rattle.records.specs.Record.{standing, together, fresh, filed}
 use Rattle.campaign.specs.Calls.{startChecks, startOutcome, enterChecks, fileChecks, fileOutcome, enterOutcome, withdrawChecks, withdrawOutcome}
 use Rattle.trend.specs.Calls.{responseChecks, responseOutcome, summaryChecks, summaryOutcome, summaryNumber}
@@ -87,8 +88,8 @@ registers =
 
 -- ---- a campaign
 
-abbrev started : ℕ → ℕ → ℕ → ℕ → ℕ → ℕ
-started N taps C store sums = startOutcome (fresh 2 3 1) N taps C (replicate store (pos 9)) (replicate sums (pos 9)) .0 .answer .number
+abbrev started : ℕ → ℕ → ℕ → ℕ → ℕ → ℕ → ℕ
+started N taps C E store sums = startOutcome (fresh 2 3 1 awayFromZero) N taps C E (replicate store (pos 9)) (replicate sums (pos 9)) .0 .answer .number
 
 -- zeros; a recording that may just stand; and one that is dead and not constant
 abbrev zeros : List ℤ
@@ -108,39 +109,41 @@ abbrev entry-to : Campaign → List ℤ → List ℤ → ℕ → Night → List 
 entry-to c store sums d night y = enterOutcome c store sums d night y .0 .entry .verdict
 
 abbrev empty : ℕ → Night → List ℤ → Verdict
-empty = entry-to (fresh 2 3 1) zeros zeros
+empty = entry-to (fresh 2 3 1 awayFromZero) zeros zeros
 
 abbrev apart : ℕ → Night → List ℤ → Verdict
-apart = entry-to (fresh 2 3 1) zeros barely
+apart = entry-to (fresh 2 3 1 awayFromZero) zeros barely
 
 abbrev full : ℕ → Night → List ℤ → Verdict
-full = entry-to (filed (fresh 2 3 1) 1 standing 0 1 1) barely barely
+full = entry-to (filed (fresh 2 3 1 awayFromZero) 1 standing 0 1 1) barely barely
 
 -- a filing, handed a verdict, to the first and to the last of these
 abbrev to-empty : ℕ → Night → List ℤ → Judged → Verdict
-to-empty d night y v = fileOutcome (fresh 2 3 1) zeros zeros d night y v .0 .entry .verdict
+to-empty d night y v = fileOutcome (fresh 2 3 1 awayFromZero) zeros zeros d night y v .0 .entry .verdict
 
 abbrev to-full : ℕ → Night → List ℤ → Judged → Verdict
-to-full d night y v = fileOutcome (filed (fresh 2 3 1) 1 standing 0 1 1) barely barely d night y v .0 .entry .verdict
+to-full d night y v = fileOutcome (filed (fresh 2 3 1 awayFromZero) 1 standing 0 1 1) barely barely d night y v .0 .entry .verdict
 
 -- the other calls on the first two, told by their sums
 abbrev withdrew : List ℤ → ℕ → ℕ
-withdrew sums d = withdrawOutcome (fresh 2 3 1) zeros sums d .0 .answer
+withdrew sums d = withdrawOutcome (fresh 2 3 1 awayFromZero) zeros sums d .0 .answer
 
 abbrev responded : List ℤ → ℕ → ℕ → ℕ → ℕ → ℕ
 responded sums r mean room tags =
-    responseOutcome (fresh 2 3 1) zeros sums (replicate r (pos 9)) (replicate mean (pos 9)) (replicate room (pos 9)) (replicate tags 9) .0
+    responseOutcome (fresh 2 3 1 awayFromZero) zeros sums (replicate r (pos 9)) (replicate mean (pos 9)) (replicate room (pos 9)) (replicate tags 9) .0
 
 abbrev summed : List ℤ → ℕ → ℕ → ℕ
-summed sums room tags = summaryNumber (summaryOutcome (fresh 2 3 1) zeros sums (replicate room (pos 9)) (replicate tags 9) .0)
+summed sums room tags = summaryNumber (summaryOutcome (fresh 2 3 1 awayFromZero) zeros sums (replicate room (pos 9)) (replicate tags 9) .0)
 
 pub record Campaigns : Type 0 where
-  pub start : (N taps C : ℕ) (store sums : List ℤ) → numbers (startChecks N taps C store sums) ≡ 1 ∷ 2 ∷ 3 ∷ 4 ∷ 9 ∷ 6 ∷ []
-  pub start-1-2 : started 1 2 1 3 3 ≡ 1
-  pub start-2-3 : started 2 4 1 3 3 ≡ 2
-  pub start-3-4 : started 2 2 1 3 3 ≡ 3
-  pub start-4-9 : started 2 1 0 3 3 ≡ 4
-  pub start-9-6 : (started 2 3 65 3 3 ≡ 9) × (started 2 3 0 3 2 ≡ 9)
+  pub start : (N taps C E : ℕ) (store sums : List ℤ) → numbers (startChecks N taps C E store sums) ≡ 1 ∷ 2 ∷ 3 ∷ 4 ∷ 9 ∷ 24 ∷ 6 ∷ []
+  pub start-1-2 : started 1 2 1 1 3 3 ≡ 1
+  pub start-2-3 : started 2 4 1 1 3 3 ≡ 2
+  pub start-3-4 : started 2 2 1 1 3 3 ≡ 3
+  pub start-4-9 : started 2 1 0 1 3 3 ≡ 4
+  pub start-9-24 : (started 2 3 65 0 3 3 ≡ 9) × (started 2 3 0 3 3 3 ≡ 9)
+  pub start-24-6 : (started 2 3 1 0 2 3 ≡ 24) × (started 2 3 1 3 3 2 ≡ 24)
+  pub start-6 : (started 2 3 1 1 2 3 ≡ 6) × (started 2 3 1 2 3 2 ≡ 6)
   pub enter : (c : Campaign) (store sums : List ℤ) (d : ℕ) (night : Night) (y : List ℤ)
       → numbers (enterChecks c store sums d night y) ≡ 15 ∷ 10 ∷ 18 ∷ 5 ∷ 7 ∷ 11 ∷ []
   pub enter-15-10 : apart 0 Period barely ≡ Refused 15
@@ -175,12 +178,14 @@ pub campaigns : Campaigns
 unfolding startOutcome fileOutcome judgeOutcome term finding withdrawOutcome responseOutcome summaryOutcome together tapsAnswer period seek some every many total sum table put putAt window step dot ones
 campaigns =
     record {
-      start = λ N taps C store sums. refl;
+      start = λ N taps C E store sums. refl;
       start-1-2 = refl;
       start-2-3 = refl;
       start-3-4 = refl;
       start-4-9 = refl;
-      start-9-6 = (refl, refl);
+      start-9-24 = (refl, refl);
+      start-24-6 = (refl, refl);
+      start-6 = (refl, refl);
       enter = λ c store sums d night y. refl;
       enter-15-10 = refl;
       enter-10-5 = refl;

@@ -33,18 +33,18 @@ use Rattle.finding.proofs.Exactly.{kept-inside}
 
 -- ---- a start
 
-pub data Starting (w : World) (N taps C : ℕ) (o : Started × List ℤ × List ℤ) : Type 0 where
-  refused : (o .0 .answer .number ≡ 0 → ⊥) → o .0 .campaign ≡ w .campaign → o .1 ≡ w .store → o .2 ≡ w .sums → Starting w N taps C o
-  began : o .0 .answer .number ≡ 0 → Begins N taps C (w .store) (w .sums) → o .0 .campaign ≡ fresh N taps C → o .1 ≡ clearedWide (C * P N) (w .store)
-      → o .2 ≡ clearedWide (P N) (w .sums) → Starting w N taps C o
+pub data Starting (w : World) (N taps C E : ℕ) (o : Started × List ℤ × List ℤ) : Type 0 where
+  refused : (o .0 .answer .number ≡ 0 → ⊥) → o .0 .campaign ≡ w .campaign → o .1 ≡ w .store → o .2 ≡ w .sums → Starting w N taps C E o
+  began : o .0 .answer .number ≡ 0 → Begins N taps C E (w .store) (w .sums) → o .0 .campaign ≡ fresh N taps C E → o .1 ≡ clearedWide (C * P N) (w .store)
+      → o .2 ≡ clearedWide (P N) (w .sums) → Starting w N taps C E o
 
-pub starting : (w : World) (N taps C : ℕ) → Starting w N taps C (startOutcome (w .campaign) N taps C (w .store) (w .sums))
+pub starting : (w : World) (N taps C E : ℕ) → Starting w N taps C E (startOutcome (w .campaign) N taps C E (w .store) (w .sums))
 unfolding startOutcome
-starting w N taps C =
-    outcome-cases (startChecks N taps C (w .store) (w .sums)) tt (λ n. (record { answer = answerOf N taps n; campaign = w .campaign }, w .store, w .sums))
-    (record { answer = answerOf N taps 0; campaign = fresh N taps C }, clearedWide (C * P N) (w .store), clearedWide (P N) (w .sums)) (Starting w N taps C)
+starting w N taps C E =
+    outcome-cases (startChecks N taps C E (w .store) (w .sums)) tt (λ n. (record { answer = answerOf N taps n; campaign = w .campaign }, w .store, w .sums))
+    (record { answer = answerOf N taps 0; campaign = fresh N taps C E }, clearedWide (C * P N) (w .store), clearedWide (P N) (w .sums)) (Starting w N taps C E)
     (λ n h _. refused h refl refl refl)
-    (λ p. began refl (begins N taps C (w .store) (w .sums) (accepts (startChecks N taps C (w .store) (w .sums)) p)) refl refl refl)
+    (λ p. began refl (begins N taps C E (w .store) (w .sums) (accepts (startChecks N taps C E (w .store) (w .sums)) p)) refl refl refl)
 
 -- ---- a filing
 

@@ -16,7 +16,7 @@ stays-under-way w call before u =
 
 pub same-campaign : (w : World) (call : Call) (before : List Call) → starts call ≡ false → begun w (call ∷ before) ≡ begun w before
 unfolding begun
-same-campaign w (start N taps C) before e = absurd (subst T e tt)
+same-campaign w (start N taps C E) before e = absurd (subst T e tt)
 same-campaign w (judge N taps night y) before _ = if-alike (accepted (run w before) (judge N taps night y)) (begun w before)
 same-campaign w (file d night y s) before _ = if-alike (accepted (run w before) (file d night y s)) (begun w before)
 same-campaign w (withdraw d) before _ = if-alike (accepted (run w before) (withdraw d)) (begun w before)
@@ -26,16 +26,16 @@ same-campaign w (summary room tags) before _ = if-alike (accepted (run w before)
 
 -- ---- an accepted start
 
-module _ (w : World) (N taps C : ℕ) (before : List Call) (accepted-0 : answer (run w before) (start N taps C) ≡ 0) where
-  pub started : underWay w (start N taps C ∷ before) ≡ true
+module _ (w : World) (N taps C E : ℕ) (before : List Call) (accepted-0 : answer (run w before) (start N taps C E) ≡ 0) where
+  pub started : underWay w (start N taps C E ∷ before) ≡ true
   unfolding underWay
-  started = ap (λ b. b || underWay w before) (eq-eqb (answer (run w before) (start N taps C)) 0 accepted-0)
+  started = ap (λ b. b || underWay w before) (eq-eqb (answer (run w before) (start N taps C E)) 0 accepted-0)
 
-  pub started-campaign : begun w (start N taps C ∷ before) ≡ fresh N taps C
+  pub started-campaign : begun w (start N taps C E ∷ before) ≡ fresh N taps C E
   unfolding begun
-  started-campaign = ap (λ b. cond b (fresh N taps C) (begun w before)) (eq-eqb (answer (run w before) (start N taps C)) 0 accepted-0)
+  started-campaign = ap (λ b. cond b (fresh N taps C E) (begun w before)) (eq-eqb (answer (run w before) (start N taps C E)) 0 accepted-0)
 
-pub from-start : (w : World) (N taps C : ℕ) → answer w (start N taps C) ≡ 0 → (cs : List Call) → underWay w (cs ++ start N taps C ∷ []) ≡ true
+pub from-start : (w : World) (N taps C E : ℕ) → answer w (start N taps C E) ≡ 0 → (cs : List Call) → underWay w (cs ++ start N taps C E ∷ []) ≡ true
 unfolding run
-from-start w N taps C e [] = started w N taps C [] e
-from-start w N taps C e (call ∷ cs) = stays-under-way w call (cs ++ start N taps C ∷ []) (from-start w N taps C e cs)
+from-start w N taps C E e [] = started w N taps C E [] e
+from-start w N taps C E e (call ∷ cs) = stays-under-way w call (cs ++ start N taps C E ∷ []) (from-start w N taps C E e cs)

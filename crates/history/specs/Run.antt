@@ -1,4 +1,4 @@
--- Document 01, "A record holds together when", and document 02, requests 1 and 5: a run of calls, each given the record that the one before handed back and the same lent
+-- Document 01, "A record holds together when", and document 02, requests 1, 5 and 9: a run of calls, each given the record that the one before handed back and the same lent
 -- memory, untouched between. A start is a call like the others: refused, it leaves the campaign that was under way; accepted, it begins a new
 -- history in the same lent memory. Assumes nothing.
 use mathlib.Core.Path.{_≡_}
@@ -27,7 +27,7 @@ pub record World : Type 0 where
 
 -- a call with all its arguments but those; a filing is handed a verdict, or goes by judging's own
 pub data Call : Type 0 where
-  start : ℕ → ℕ → ℕ → Call
+  start : ℕ → ℕ → ℕ → ℕ → Call
   judge : ℕ → ℕ → Night → List ℤ → Call
   file : ℕ → Night → List ℤ → Shown → Call
   withdraw : ℕ → Call
@@ -41,8 +41,8 @@ enter d night y = file d night y own
 
 -- the world after a call: only a start, a filing and a withdrawal hand a record back
 abbrev pub after : World → Call → World
-after w (start N taps C) =
-    let o = startOutcome (w .campaign) N taps C (w .store) (w .sums) in
+after w (start N taps C E) =
+    let o = startOutcome (w .campaign) N taps C E (w .store) (w .sums) in
     record { campaign = o .0 .campaign; store = o .1; sums = o .2 }
 after w (judge N taps night y) = w
 after w (file d night y s) =
@@ -57,7 +57,7 @@ after w (summary room tags) = w
 
 -- the number that a call answers: 0 is accepted
 abbrev pub answer : World → Call → ℕ
-answer w (start N taps C) = startOutcome (w .campaign) N taps C (w .store) (w .sums) .0 .answer .number
+answer w (start N taps C E) = startOutcome (w .campaign) N taps C E (w .store) (w .sums) .0 .answer .number
 answer w (judge N taps night y) = judgedNumber (judging N taps night y)
 answer w (file d night y s) = verdictNumber (fileOutcome (w .campaign) (w .store) (w .sums) d night y (shownTo (w .campaign) night y s) .0 .entry .verdict)
 answer w (withdraw d) = withdrawOutcome (w .campaign) (w .store) (w .sums) d .0 .answer
@@ -77,7 +77,7 @@ run w (c ∷ earlier) = after (run w earlier) c
 
 -- whether a call is a start
 abbrev pub starts : Call → Bool
-starts (start N taps C) = true
+starts (start N taps C E) = true
 starts (judge N taps night y) = false
 starts (file d night y s) = false
 starts (withdraw d) = false
@@ -90,9 +90,9 @@ unfoldable pub underWay : World → List Call → Bool
 underWay w [] = false
 underWay w (c ∷ earlier) = (starts c && accepted (run w earlier) c) || underWay w earlier
 
--- the record as the last accepted start made it: its order, taps and slot count are those of the campaign
+-- the record as the last accepted start made it: its order, taps, slot count and edition are those of the campaign
 abbrev pub begins : Call → Campaign → Campaign
-begins (start N taps C) before = fresh N taps C
+begins (start N taps C E) before = fresh N taps C E
 begins (judge N taps night y) before = before
 begins (file d night y s) before = before
 begins (withdraw d) before = before
@@ -108,7 +108,7 @@ begun w (c ∷ earlier) = cond (accepted (run w earlier) c) (begins c (begun w e
 
 -- whether a call names day d: a start names every day, and a judgement none
 abbrev pub names : Call → ℕ → Bool
-names (start N taps C) d = true
+names (start N taps C E) d = true
 names (judge N taps night y) d = false
 names (file e night y s) d = eqb e d
 names (withdraw e) d = eqb e d
@@ -118,7 +118,7 @@ names (summary room tags) d = false
 
 -- what an accepted call makes of the day that it names, in the world before it
 abbrev pub makes : World → Call → ℕ
-makes w (start N taps C) = unseen
+makes w (start N taps C E) = unseen
 makes w (judge N taps night y) = unseen
 makes w (file d night y s) = stateOf (finding (settledOf (w .campaign) night y))
 makes w (withdraw d) = withdrawn
@@ -145,7 +145,7 @@ nothing = record { periods = 0; samples = [] }
 
 -- the recording of a call, of which a start leaves none; and the last recording accepted for day d
 abbrev pub recording : World → Call → Heard → Heard
-recording w (start N taps C) before = nothing
+recording w (start N taps C E) before = nothing
 recording w (judge N taps night y) before = before
 recording w (file d night y s) before = record { periods = periodsOf night; samples = settledOf (w .campaign) night y }
 recording w (withdraw d) before = before

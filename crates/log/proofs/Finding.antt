@@ -11,7 +11,7 @@ use lib.IntN.{ℤ}
 use lib.ListN.{length}
 use Rattle.nights.specs.Nights.{nightLength}
 use Rattle.nights.specs.declared.Night.{Night}
-use Rattle.log.specs.Kinds.{kindStart, kindOpen, kindSample, kindEnter, kindWithdraw, kindAsk, kindCapture, bodyLength}
+use Rattle.log.specs.Kinds.{kindStart, kindOpen, kindSample, kindEnter, kindWithdraw, kindAsk, kindCapture, kindEdition, bodyLength}
 use Rattle.log.specs.Phases.{mayStand, mayEnd}
 use Rattle.log.specs.Log.{byteAt, itemAt, kindOf, decoded}
 use Rattle.log.specs.declared.Phase.{Phase}
@@ -23,13 +23,15 @@ use Rattle.log.specs.declared.Found.the-variants as found
 
 -- ---- the items that may stand at each place
 
--- the first is a start and no other is; samples, no more than the night's, and enter only in an open day; the others only outside
+-- the first is a start and no other is; an edition only directly after it; samples, no more than the night's, and enter only in an open day; the others only
+-- outside
 pub data Fits (P : ℕ) : Phase → Item → Type 0 where
   starts : {N taps C : ℕ} → Fits P phase.Unbegun (item.Start N taps C)
-  opens : {d : ℕ} → Fits P phase.Between (item.Open d)
-  captures : {d m : ℕ} → Fits P phase.Between (item.Capture d m)
-  withdraws : {d : ℕ} → Fits P phase.Between (item.Withdraw d)
-  asks : Fits P phase.Between item.Ask
+  editions : {e : ℕ} → Fits P (phase.Between true) (item.Edition e)
+  opens : {b : Bool} {d : ℕ} → Fits P (phase.Between b) (item.Open d)
+  captures : {b : Bool} {d m : ℕ} → Fits P (phase.Between b) (item.Capture d m)
+  withdraws : {b : Bool} {d : ℕ} → Fits P (phase.Between b) (item.Withdraw d)
+  asks : {b : Bool} → Fits P (phase.Between b) item.Ask
   samples : {d n : ℕ} {night : Night} {v : ℤ} → n < nightLength P night → Fits P (phase.Open d night n) (item.Sample v)
   enters : {d n : ℕ} {night : Night} → Fits P (phase.Open d night n) item.Enter
 
@@ -37,13 +39,15 @@ module _ (P k : ℕ) (bytes : List ℕ) where
   fits-first : eqb k kindStart ≡ true → Fits P phase.Unbegun (itemAt k bytes)
   fits-first e = rw (eqb-true k kindStart e) starts
 
-  fits-outside : (a b c d : Bool) → eqb k kindOpen ≡ a → eqb k kindWithdraw ≡ b → eqb k kindAsk ≡ c → eqb k kindCapture ≡ d → a || b || c || d ≡ true
-      → Fits P phase.Between (itemAt k bytes)
-  fits-outside true b c d x y z u h = rw (eqb-true k kindOpen x) opens
-  fits-outside false true c d x y z u h = rw (eqb-true k kindWithdraw y) withdraws
-  fits-outside false false true d x y z u h = rw (eqb-true k kindAsk z) asks
-  fits-outside false false false true x y z u h = rw (eqb-true k kindCapture u) captures
-  fits-outside false false false false x y z u h = absurd (subst T (sym h) tt)
+  fits-outside : (s a b c d e : Bool) → eqb k kindOpen ≡ a → eqb k kindWithdraw ≡ b → eqb k kindAsk ≡ c → eqb k kindCapture ≡ d → eqb k kindEdition ≡ e
+      → a || b || c || d || s && e ≡ true → Fits P (phase.Between s) (itemAt k bytes)
+  fits-outside s true b c d e x y z u v h = rw (eqb-true k kindOpen x) opens
+  fits-outside s false true c d e x y z u v h = rw (eqb-true k kindWithdraw y) withdraws
+  fits-outside s false false true d e x y z u v h = rw (eqb-true k kindAsk z) asks
+  fits-outside s false false false true e x y z u v h = rw (eqb-true k kindCapture u) captures
+  fits-outside true false false false false true x y z u v h = rw (eqb-true k kindEdition v) editions
+  fits-outside true false false false false false x y z u v h = absurd (subst T (sym h) tt)
+  fits-outside false false false false false e x y z u v h = absurd (subst T (sym h) tt)
 
   fits-inside : (d n : ℕ) (night : Night) (a b c : Bool) → eqb k kindEnter ≡ a → eqb k kindSample ≡ b → ltb n (nightLength P night) ≡ c
       → a || b && c ≡ true → Fits P (phase.Open d night n) (itemAt k bytes)
@@ -54,13 +58,14 @@ module _ (P k : ℕ) (bytes : List ℕ) where
 
   fits : (p : Phase) → mayStand p P k ≡ true → Fits P p (itemAt k bytes)
   fits phase.Unbegun h = fits-first h
-  fits phase.Between h = fits-outside (eqb k kindOpen) (eqb k kindWithdraw) (eqb k kindAsk) (eqb k kindCapture) refl refl refl refl h
+  fits (phase.Between s) h = fits-outside s (eqb k kindOpen) (eqb k kindWithdraw) (eqb k kindAsk) (eqb k kindCapture) (eqb k kindEdition) refl refl refl refl refl h
   fits (phase.Open d night n) h = fits-inside d n night (eqb k kindEnter) (eqb k kindSample) (ltb n (nightLength P night)) refl refl refl h
   fits phase.Stopped h = absurd (subst T (sym h) tt)
 
 -- an item's kind may stand where the item may
 pub fits-kind : {P : ℕ} {p : Phase} {i : Item} → Fits P p i → mayStand p P (kindOf i) ≡ true
 fits-kind starts = refl
+fits-kind editions = refl
 fits-kind opens = refl
 fits-kind captures = refl
 fits-kind withdraws = refl
@@ -77,7 +82,8 @@ body-short (suc (suc (suc (suc zero)))) = omega arith
 body-short (suc (suc (suc (suc (suc zero))))) = omega arith
 body-short (suc (suc (suc (suc (suc (suc zero)))))) = omega arith
 body-short (suc (suc (suc (suc (suc (suc (suc zero))))))) = omega arith
-body-short (suc (suc (suc (suc (suc (suc (suc (suc k)))))))) = omega arith
+body-short (suc (suc (suc (suc (suc (suc (suc (suc zero)))))))) = omega arith
+body-short (suc (suc (suc (suc (suc (suc (suc (suc (suc k))))))))) = omega arith
 
 -- ---- what stands at a place, of m bytes at hand
 

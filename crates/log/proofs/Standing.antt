@@ -1,7 +1,7 @@
 -- What stands at a place, by the tests that decide it; and each way to be bad. Assumes nothing.
 use mathlib.Core.Path.{_≡_, refl, sym, ap, ap₂, _∙_}
 use mathlib.Core.List.{List, [], _∷_, _++_}
-use mathlib.Core.Bool.{Bool, true, false, cond}
+use mathlib.Core.Bool.{Bool, true, false, cond, and-false}
 use Prim.Native.Nat.{ℕ, suc, _+_, _*_, _≤_, _<_}
 use mathlib.Core.Logic.{_⊎_, inl, inr, ⊎-elim}
 use native.Mathlib.Omega.{arith}
@@ -10,7 +10,7 @@ use lib.Dec.{eqb, leb}
 use lib.ListN.{length, length-append, List·getD-append}
 use Rattle.nights.specs.Nights.{nightLength}
 use Rattle.nights.specs.declared.Night.{Night}
-use Rattle.log.specs.Kinds.{kindStart, kindOpen, kindSample, kindEnter, kindWithdraw, kindAsk, kindCapture, bodyLength}
+use Rattle.log.specs.Kinds.{kindStart, kindOpen, kindSample, kindEnter, kindWithdraw, kindAsk, kindCapture, kindEdition, bodyLength}
 use Rattle.log.specs.Phases.{mayStand}
 use Rattle.log.specs.Log.{byteAt, pairAt, signed, itemAt, cut, decoded}
 use Rattle.log.specs.declared.Phase.{Phase}
@@ -19,7 +19,7 @@ use Rattle.log.specs.declared.Item.the-variants as item
 use Rattle.log.specs.declared.Found.the-variants as found
 
 -- a number that is 0 or above the last kind is none of them
-none : {k : ℕ} → (k ≡ 0) ⊎ (kindCapture < k) → (n : ℕ) → 0 < n → n ≤ kindCapture → eqb k n ≡ false
+none : {k : ℕ} → (k ≡ 0) ⊎ (kindEdition < k) → (n : ℕ) → 0 < n → n ≤ kindEdition → eqb k n ≡ false
 none {k} u n h l = ne-eqb k n (λ e. ⊎-elim (λ z. omega arith) (λ z. omega arith) u)
 
 -- ---- by the tests
@@ -42,14 +42,16 @@ module _ (p : Phase) (P : ℕ) (bytes : List ℕ) (ended : Bool) (some : length 
 -- ---- each way to be bad: at the place of the kind byte
 
 -- an unknown kind
-unknown-barred : (p : Phase) (P k : ℕ) → (k ≡ 0) ⊎ (kindCapture < k) → mayStand p P k ≡ false
+unknown-barred : (p : Phase) (P k : ℕ) → (k ≡ 0) ⊎ (kindEdition < k) → mayStand p P k ≡ false
 unknown-barred phase.Unbegun P k u = none u kindStart (omega arith) (omega arith)
-unknown-barred phase.Between P k u =
+unknown-barred (phase.Between begun) P k u =
     simp (
       none u kindOpen (omega arith) (omega arith),
       none u kindWithdraw (omega arith) (omega arith),
       none u kindAsk (omega arith) (omega arith),
       none u kindCapture (omega arith) (omega arith),
+      none u kindEdition (omega arith) (omega arith),
+      and-false begun,
     )
 unknown-barred (phase.Open d night n) P k u = simp (none u kindEnter (omega arith) (omega arith), none u kindSample (omega arith) (omega arith))
 unknown-barred phase.Stopped P k u = refl
@@ -59,16 +61,26 @@ module _ (p : Phase) (P k : ℕ) (rest : List ℕ) (ended : Bool) where
   pub misplaced : mayStand p P k ≡ false → decoded p P (k ∷ rest) ended ≡ found.Bad
   misplaced m = sym (barred p P (k ∷ rest) ended (λ e. omega arith) m)
 
-  pub unknown-kind : (k ≡ 0) ⊎ (kindCapture < k) → decoded p P (k ∷ rest) ended ≡ found.Bad
+  pub unknown-kind : (k ≡ 0) ⊎ (kindEdition < k) → decoded p P (k ∷ rest) ended ≡ found.Bad
   unknown-kind u = misplaced (unknown-barred p P k u)
 
   -- a cut body, once the input has ended
   pub cut-body : mayStand p P k ≡ true → length rest < bodyLength k → decoded p P (k ∷ rest) true ≡ found.Bad
   cut-body m h = sym (short p P (k ∷ rest) true (λ e. omega arith) m (omega arith))
 
--- a second start; a sample beyond the night's
-pub second-start : (P : ℕ) (rest : List ℕ) (ended : Bool) → decoded phase.Between P (kindStart ∷ rest) ended ≡ found.Bad
-second-start P rest ended = misplaced phase.Between P kindStart rest ended refl
+-- a second start; an edition that does not stand directly after it; a sample beyond the night's
+pub second-start : (begun : Bool) (P : ℕ) (rest : List ℕ) (ended : Bool) → decoded (phase.Between begun) P (kindStart ∷ rest) ended ≡ found.Bad
+second-start begun P rest ended = misplaced (phase.Between begun) P kindStart rest ended (and-false begun)
+
+pub late-edition : (p : Phase) (P : ℕ) (rest : List ℕ) (ended : Bool) → (p ≡ phase.Between true → ⊥) → decoded p P (kindEdition ∷ rest) ended ≡ found.Bad
+late-edition p P rest ended n = misplaced p P kindEdition rest ended (barred-there p n)
+  where
+    barred-there : (p : Phase) → (p ≡ phase.Between true → ⊥) → mayStand p P kindEdition ≡ false
+    barred-there phase.Unbegun n = refl
+    barred-there (phase.Between true) n = absurd (n refl)
+    barred-there (phase.Between false) n = refl
+    barred-there (phase.Open d night k) n = refl
+    barred-there phase.Stopped n = refl
 
 pub beyond-night : (d P : ℕ) (night : Night) (rest : List ℕ) (ended : Bool)
     → decoded (phase.Open d night (nightLength P night)) P (kindSample ∷ rest) ended ≡ found.Bad
@@ -107,7 +119,8 @@ module _ (bytes more : List ℕ) where
       (pick (eqb k kindEnter) (λ e. refl)
       (pick (eqb k kindWithdraw) (λ e. let l : 2 < length bytes = rw (eqb-true k kindWithdraw e) at h in ap item.Withdraw (same-pair 1 (omega arith)))
       (pick (eqb k kindCapture) (λ e. let l : 3 < length bytes = rw (eqb-true k kindCapture e) at h in
-      ap₂ (λ d m. item.Capture d m) (same-pair 1 (omega arith)) (same-byte 3 l)) refl)))))
+      ap₂ (λ d m. item.Capture d m) (same-pair 1 (omega arith)) (same-byte 3 l))
+      (pick (eqb k kindEdition) (λ e. let l : 1 < length bytes = rw (eqb-true k kindEdition e) at h in ap item.Edition (same-byte 1 l)) refl))))))
 
 module _ (p : Phase) (P : ℕ) (k : ℕ) (bytes more : List ℕ) (ended : Bool) where
   -- while more may come an item is not whole, or it is the one that is found with all that comes

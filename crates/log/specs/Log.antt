@@ -1,11 +1,11 @@
--- Document 01, "The log program", and document 02, request 1: the log's items, and what stands at a place of it. Assumes nothing.
+-- Document 01, "The log program", and document 02, requests 1 and 9: the log's items, and what stands at a place of it. Assumes nothing.
 use mathlib.Core.List.{List}
 use mathlib.Core.Bool.{Bool, cond}
 use Prim.Native.Nat.{ℕ, _+_, _*_}
 use lib.Dec.{eqb, ltb, leb}
 use lib.IntN.{ℤ, pos, _-ℤ_}
 use lib.ListN.{length, getD}
-use Rattle.log.specs.Kinds.{kindStart, kindOpen, kindSample, kindEnter, kindWithdraw, kindAsk, kindCapture, bodyLength}
+use Rattle.log.specs.Kinds.{kindStart, kindOpen, kindSample, kindEnter, kindWithdraw, kindAsk, kindCapture, kindEdition, bodyLength}
 use Rattle.log.specs.Phases.{mayStand, mayEnd}
 use Rattle.log.specs.declared.Phase.{Phase}
 use Rattle.log.specs.declared.Item.{Item}
@@ -45,7 +45,8 @@ itemAt kind bytes =
     (cond (eqb kind kindEnter) item.Enter
     (cond (eqb kind kindWithdraw) (item.Withdraw (pairAt bytes 1))
     (cond (eqb kind kindCapture) (item.Capture (pairAt bytes 1) (byteAt bytes 3))
-    item.Ask)))))
+    (cond (eqb kind kindEdition) (item.Edition (byteAt bytes 1))
+    item.Ask))))))
 
 -- the kind of an item
 abbrev pub kindOf : Item → ℕ
@@ -56,6 +57,7 @@ kindOf item.Enter = kindEnter
 kindOf (item.Withdraw d) = kindWithdraw
 kindOf item.Ask = kindAsk
 kindOf (item.Capture d m) = kindCapture
+kindOf (item.Edition e) = kindEdition
 
 -- ---- what stands at a place: the bytes from there on that are at hand, and whether the input has no more
 

@@ -1,4 +1,4 @@
--- Document 01, "The log program", and document 02, request 1: where the log stands between items, which kinds may stand there, whether the input may end there, and where each
+-- Document 01, "The log program", and document 02, requests 1 and 9: where the log stands between items, which kinds may stand there, whether the input may end there, and where each
 -- item leads. Assumes nothing.
 use mathlib.Core.Bool.{Bool, true, false, _&&_, _||_}
 use Prim.Native.Nat.{ℕ, _+_}
@@ -6,15 +6,15 @@ use lib.Dec.{eqb, ltb}
 use Rattle.sums.specs.Refusals.{answered}
 use Rattle.nights.specs.Nights.{nightLength}
 use Rattle.nights.specs.declared.Night.{Night}
-use Rattle.log.specs.Kinds.{kindStart, kindOpen, kindSample, kindEnter, kindWithdraw, kindAsk, kindCapture}
+use Rattle.log.specs.Kinds.{kindStart, kindOpen, kindSample, kindEnter, kindWithdraw, kindAsk, kindCapture, kindEdition}
 use Rattle.log.specs.declared.Phase.{Phase}
 use Rattle.log.specs.declared.Phase.the-variants as phase
 
 -- ---- where a kind may stand
 
--- open, of one period or of several, withdraw and ask only outside a day
-abbrev pub standsOutside : ℕ → Bool
-standsOutside kind = eqb kind kindOpen || eqb kind kindWithdraw || eqb kind kindAsk || eqb kind kindCapture
+-- open, of one period or of several, withdraw and ask only outside a day; an edition only directly after the start
+abbrev pub standsOutside : Bool → ℕ → Bool
+standsOutside begun kind = eqb kind kindOpen || eqb kind kindWithdraw || eqb kind kindAsk || eqb kind kindCapture || begun && eqb kind kindEdition
 
 -- samples and enter only in an open day, of n samples so far, and no sample beyond its limit
 abbrev pub standsInside : ℕ → ℕ → ℕ → Bool
@@ -23,7 +23,7 @@ standsInside kind n limit = eqb kind kindEnter || eqb kind kindSample && ltb n l
 -- the first item is a start and no other is
 abbrev pub mayStand : Phase → ℕ → ℕ → Bool
 mayStand phase.Unbegun P kind = eqb kind kindStart
-mayStand phase.Between P kind = standsOutside kind
+mayStand (phase.Between begun) P kind = standsOutside begun kind
 mayStand (phase.Open day night n) P kind = standsInside kind n (nightLength P night)
 mayStand phase.Stopped P kind = false
 
@@ -32,25 +32,35 @@ mayStand phase.Stopped P kind = false
 -- the input may end outside a day, once begun
 abbrev pub mayEnd : Phase → Bool
 mayEnd phase.Unbegun = false
-mayEnd phase.Between = true
+mayEnd (phase.Between begun) = true
 mayEnd (phase.Open day night n) = false
 mayEnd phase.Stopped = true
 
--- a refused start stops
+-- a refused start stops, and so does a refused edition
 abbrev pub goesOn : Phase → Bool
 goesOn phase.Unbegun = true
-goesOn phase.Between = true
+goesOn (phase.Between begun) = true
 goesOn (phase.Open day night n) = true
 goesOn phase.Stopped = false
 
--- ---- where each item leads: withdraw and ask leave the log where it stands
+-- ---- where each item leads
 
 abbrev pub firstPhase : Phase
 firstPhase = phase.Unbegun
 
--- a start, by its answer: a refused one stops
+-- outside a day, and not directly after the start: where withdraw and ask lead
+abbrev pub afterOther : Phase
+afterOther = phase.Between false
+
+-- a start and an edition, by the answer: a refused one stops
+abbrev pub afterAnswer : Bool → ℕ → Phase
+afterAnswer begun answer = answered answer (λ _. phase.Stopped) (phase.Between begun)
+
 abbrev pub afterStart : ℕ → Phase
-afterStart answer = answered answer (λ _. phase.Stopped) phase.Between
+afterStart answer = afterAnswer true answer
+
+abbrev pub afterEdition : ℕ → Phase
+afterEdition answer = afterAnswer false answer
 
 -- a day is opened, with no sample
 abbrev pub afterOpen : ℕ → Night → Phase
@@ -62,4 +72,4 @@ afterSample day night n = phase.Open day night (n + 1)
 
 -- enter closes the day
 abbrev pub afterEnter : Phase
-afterEnter = phase.Between
+afterEnter = afterOther

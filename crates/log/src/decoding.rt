@@ -3,6 +3,7 @@ use crate::Found;
 use crate::Item;
 use crate::Phase;
 use crate::kinds::CAPTURE;
+use crate::kinds::EDITION;
 use crate::kinds::ENTER;
 use crate::kinds::OPEN;
 use crate::kinds::SAMPLE;
@@ -62,6 +63,7 @@ fn item_at(kind: u8, bytes: &[u8]) -> Item
         ENTER => Item::Enter,
         WITHDRAW => Item::Withdraw(pair_at(bytes, 1)),
         CAPTURE => Item::Capture(pair_at(bytes, 1), byte_at(bytes, 3)),
+        EDITION => Item::Edition(byte_at(bytes, 1)),
         _ => Item::Ask,
     }
 }

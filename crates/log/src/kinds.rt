@@ -17,6 +17,9 @@ pub const ASK: u8 = 6;
 // Opens a day of several periods.
 pub const CAPTURE: u8 = 7;
 
+// An edition of the report rules.
+pub const EDITION: u8 = 8;
+
 // Order, taps and slots.
 const START_BODY: usize = 4;
 
@@ -26,6 +29,8 @@ const SAMPLE_BODY: usize = 3;
 
 // The day, and how many periods count.
 const CAPTURE_BODY: usize = 3;
+
+const EDITION_BODY: usize = 1;
 
 const NO_BODY: usize = 0;
 
@@ -39,6 +44,7 @@ pub fn body_length(kind: u8) -> usize
         SAMPLE => SAMPLE_BODY,
         WITHDRAW => DAY_BODY,
         CAPTURE => CAPTURE_BODY,
+        EDITION => EDITION_BODY,
         _ => NO_BODY,
     }
 }

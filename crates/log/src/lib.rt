@@ -10,11 +10,11 @@ use nights::Night;
 pub enum Phase {
     // No item yet.
     Unbegun,
-    // Outside a day.
-    Between,
+    // Outside a day: whether that is directly after the start.
+    Between(bool),
     // In an open day: the day, its night, and how many samples it has so far.
     Open(u32, Night, usize),
-    // After a refused start.
+    // After a refused start or edition.
     Stopped,
 }
 
@@ -29,6 +29,8 @@ pub enum Item {
     Ask,
     // The day, and how many periods count.
     Capture(u32, u32),
+    // The edition of the report rules.
+    Edition(u32),
 }
 
 // What stands at a place of the log.

@@ -2,6 +2,7 @@
 use crate::Phase;
 use crate::kinds::ASK;
 use crate::kinds::CAPTURE;
+use crate::kinds::EDITION;
 use crate::kinds::ENTER;
 use crate::kinds::OPEN;
 use crate::kinds::SAMPLE;
@@ -14,11 +15,11 @@ ghost use mathlib.Core.Path.{_≡_};
 ghost use Prim.Native.Nat.{_+_, _^_, _<_};
 ghost use lib.Dec.{ltb};
 ghost use Rattle.nights.specs.Nights.{nightLength};
-ghost use Rattle.log.specs.Phases.{standsOutside, standsInside, mayStand, mayEnd, goesOn, firstPhase, afterStart, afterOpen, afterSample, afterEnter};
+ghost use Rattle.log.specs.Phases.{standsOutside, standsInside, mayStand, mayEnd, goesOn, firstPhase, afterOther, afterAnswer, afterOpen, afterSample, afterEnter};
 
-// Kinds that stand only outside a day.
-fn stands_outside(kind: u8) -> bool
-    ensures { λ r. ⌜ r ≡ standsOutside kind ⌝ }
+// Kinds that stand only outside a day, an edition only directly after the start.
+fn stands_outside(begun: bool, kind: u8) -> bool
+    ensures { λ r. ⌜ r ≡ standsOutside begun kind ⌝ }
 {
     if kind == OPEN {
         return true;
@@ -29,7 +30,10 @@ fn stands_outside(kind: u8) -> bool
     if kind == ASK {
         return true;
     }
-    kind == CAPTURE
+    if kind == CAPTURE {
+        return true;
+    }
+    begun && kind == EDITION
 }
 
 // Whether an open day that has n samples so far takes one more: by its whole periods, which no product can overflow. In the first period, which
@@ -60,7 +64,7 @@ pub fn may_stand(phase: Phase, period: usize, kind: u8) -> bool
 {
     match phase {
         Phase::Unbegun => kind == START,
-        Phase::Between => stands_outside(kind),
+        Phase::Between(begun) => stands_outside(begun, kind),
         Phase::Open(_, night, n) => stands_inside(kind, night, n, period),
         Phase::Stopped => false,
     }
@@ -72,19 +76,19 @@ pub fn may_end(phase: Phase) -> bool
 {
     match phase {
         Phase::Unbegun => false,
-        Phase::Between => true,
+        Phase::Between(_) => true,
         Phase::Open(_, _, _) => false,
         Phase::Stopped => true,
     }
 }
 
-// Only a refused start stops the log.
+// Only a refused start or edition stops the log.
 pub fn goes_on(phase: Phase) -> bool
     ensures { λ r. ⌜ r ≡ goesOn phase ⌝ }
 {
     match phase {
         Phase::Unbegun => true,
-        Phase::Between => true,
+        Phase::Between(_) => true,
         Phase::Open(_, _, _) => true,
         Phase::Stopped => false,
     }
@@ -97,14 +101,21 @@ pub fn first_phase() -> Phase
     Phase::Unbegun
 }
 
-// After a start, by its answer.
-pub fn after_start(answer: u32) -> Phase
-    ensures { λ r. ⌜ r ≡ afterStart answer ⌝ }
+// After a start, and after an edition, by the answer.
+pub fn after_answer(begun: bool, answer: u32) -> Phase
+    ensures { λ r. ⌜ r ≡ afterAnswer begun answer ⌝ }
 {
     if answer != 0 {
         return Phase::Stopped;
     }
-    Phase::Between
+    Phase::Between(begun)
+}
+
+// Outside a day, and not directly after the start.
+pub fn after_other() -> Phase
+    ensures { λ r. ⌜ r ≡ afterOther ⌝ }
+{
+    Phase::Between(false)
 }
 
 // A day is opened with no sample.
@@ -126,5 +137,5 @@ pub fn after_sample(day: u32, night: Night, n: usize) -> Phase
 pub fn after_enter() -> Phase
     ensures { λ r. ⌜ r ≡ afterEnter ⌝ }
 {
-    Phase::Between
+    after_other()
 }

@@ -40,7 +40,7 @@ start-few c N taps C store sums = none (first (logStartChecks N taps C)) _ _ (λ
 close-few : (p : Phase) (c : Campaign) (store sums y : List ℤ) → closedOutcome p c store sums y .0 .rows ≡ 0
 unfolding enteredOutcome
 close-few phase.Unbegun c store sums y = refl
-close-few phase.Between c store sums y = refl
+close-few (phase.Between begun) c store sums y = refl
 close-few (phase.Open d night n) c store sums y = none (first (logEnterChecks d night)) _ _ (λ k. refl) refl
 close-few phase.Stopped c store sums y = refl
 
@@ -56,6 +56,7 @@ rows-few b (item.Sample v) m = omega arith
 rows-few b item.Enter m = omega (arith, close-few (b .phase) (b .campaign) (m .store) (m .sums) (m .recording))
 rows-few b (item.Withdraw d) m = omega arith
 rows-few b (item.Capture d k) m = omega arith
+rows-few b (item.Edition e) m = omega arith
 rows-few b item.Ask m =
     rows-in (responseOutcome (b .campaign) (m .store) (m .sums) (m .r) (m .mean) (m .room) (m .tags) .0) (dayLength (b .campaign .order))
     (day-short (b .campaign .order))

@@ -26,12 +26,12 @@ not-open d n night (inr (inr e)) = omega arith
 
 pub no-sample : (p : Phase) (v : ℤ) (y : List ℤ) → Shut p → (p, y) ≡ tookSample p v y
 no-sample phase.Unbegun v y s = refl
-no-sample phase.Between v y s = refl
+no-sample (phase.Between begun) v y s = refl
 no-sample (phase.Open d night n) v y s = absurd (not-open d n night s)
 no-sample phase.Stopped v y s = refl
 
 pub no-entry : (p : Phase) (c : Campaign) (store sums y : List ℤ) → Shut p → (said p c line.Silent, store, sums) ≡ closedOutcome p c store sums y
 no-entry phase.Unbegun c store sums y s = refl
-no-entry phase.Between c store sums y s = refl
+no-entry (phase.Between begun) c store sums y s = refl
 no-entry (phase.Open d night n) c store sums y s = absurd (not-open d n night s)
 no-entry phase.Stopped c store sums y s = refl

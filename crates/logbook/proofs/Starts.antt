@@ -14,10 +14,12 @@ use lib.Pow.{pow-mono}
 use Rattle.sums.specs.Refusals.{first, answered}
 use Rattle.sums.proofs.First.{passes, accepts, or-false, accepted-with}
 use Rattle.register.specs.Register.{P}
-use Rattle.register.specs.Calls.{answerOf}
+use Rattle.register.specs.Calls.{tapsChecks, tapsAnswer, answerOf}
+use Rattle.rounding.specs.Rounding.{awayFromZero}
 use Rattle.records.specs.declared.Campaign.{Campaign}
 use Rattle.campaign.specs.Calls.{startChecks, startOutcome}
 use Rattle.campaign.specs.declared.Started.{Started}
+use Rattle.campaign.proofs.Passing.{only-edition}
 use Rattle.logbook.specs.Book.{tooLarge, logStartChecks, over, startedBy, beganOutcome}
 use Rattle.report.specs.declared.Line.the-variants as line
 
@@ -29,17 +31,19 @@ module _ (c : Campaign) (N taps C : ℕ) (store sums : List ℤ) (room : 4088 �
       let m : C * P N ≤ 8 * 511 = mul-le-mul (ltb-false 8 C (o .1)) p in
       simp (le-ltb (length store) (C * P N) (omega arith), le-ltb (length sums) (P N) (omega arith))
 
-  pub accepted : first (logStartChecks N taps C) ≡ 0 → startOutcome c N taps C store sums .0 .answer ≡ answerOf N taps 0
-  unfolding startOutcome
+  pub accepted : first (logStartChecks N taps C) ≡ 0 → startOutcome c N taps C awayFromZero store sums .0 .answer ≡ answerOf N taps 0
+  unfolding startOutcome tapsAnswer
   accepted z =
       let p = passes (logStartChecks N taps C) tt z in
       let q = p .1 .1 .1 .1 in
-      let e = accepts (startChecks N taps C store sums) (p .0, (p .1 .0, (p .1 .1 .0, (p .1 .1 .1 .0, (q .0, (enough (q .1 .0), tt)))))) in
-      ap (λ (o : Started × List ℤ × List ℤ). o .0 .answer) (accepted-with _ _ (startChecks N taps C store sums) 0 (sym e) refl)
+      let taken = accepts (tapsChecks N taps) (p .0, (p .1 .0, (p .1 .1 .0, (p .1 .1 .1 .0, tt)))) in
+      ap (λ (o : Started × List ℤ × List ℤ). o .0 .answer)
+      (accepted-with _ _ (startChecks N taps C awayFromZero store sums) 0
+      (sym (only-edition N taps C awayFromZero store sums taken (q .0) (enough (q .1 .0)))) refl)
 
   by-answer : (k : ℕ) → first (logStartChecks N taps C) ≡ k
       → answered k (λ n. (startedBy (record { answer = answerOf N taps n; campaign = c }), store, sums))
-      (over startedBy (startOutcome c N taps C store sums)) .0 .line
+      (over startedBy (startOutcome c N taps C awayFromZero store sums)) .0 .line
       ≡ line.Started (answerOf N taps k)
   by-answer zero e = ap line.Started (accepted e)
   by-answer (suc k) e = refl

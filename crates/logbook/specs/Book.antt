@@ -1,4 +1,4 @@
--- Document 01, "The log program", and document 02, requests 1 and 5: what each item does to the state between items and to the memory lent, and the line
+-- Document 01, "The log program", and document 02, requests 1, 5 and 9: what each item does to the state between items and to the memory lent, and the line
 -- that it makes, by the campaign's calls. Assumes nothing.
 use mathlib.Core.List.{List, [], _∷_, _++_}
 use mathlib.Core.Bool.{Bool, cond, _&&_, _||_}
@@ -12,6 +12,7 @@ use Rattle.register.specs.Calls.{tapsChecks, answerOf}
 use Rattle.nights.specs.Nights.{periodsOf, periodsOut}
 use Rattle.nights.specs.declared.Night.{Night}
 use Rattle.nights.specs.declared.Night.the-variants as night
+use Rattle.rounding.specs.Rounding.{awayFromZero}
 use Rattle.records.specs.Record.{fresh}
 use Rattle.records.specs.declared.Campaign.{Campaign}
 use Rattle.judging.specs.Judging.{judgeOutcome}
@@ -24,7 +25,7 @@ use Rattle.trend.specs.Calls.{countsOutcome, responseOutcome}
 use Rattle.trend.specs.declared.Tally.{Tally}
 use Rattle.trend.specs.declared.Counts.{Counts}
 use Rattle.trend.specs.declared.Counts.the-variants as counts
-use Rattle.log.specs.Phases.{firstPhase, afterStart, afterOpen, afterSample, afterEnter}
+use Rattle.log.specs.Phases.{firstPhase, afterOther, afterStart, afterEdition, afterOpen, afterSample, afterEnter}
 use Rattle.log.specs.declared.Phase.{Phase}
 use Rattle.log.specs.declared.Phase.the-variants as phase
 use Rattle.log.specs.declared.Item.{Item}
@@ -43,9 +44,9 @@ abbrev pub said : Phase → Campaign → Line → Applied
 said p c l = record { book = record { phase = p; campaign = c }; line = l; rows = 0 }
 
 abbrev pub unbegunBook : Book
-unbegunBook = record { phase = firstPhase; campaign = fresh 0 0 0 }
+unbegunBook = record { phase = firstPhase; campaign = fresh 0 0 0 0 }
 
--- ---- start: 1, 2, 3, 4, 9, and 17 in the place of 6
+-- ---- start, in edition 1: 1, 2, 3, 4, 9, and 17 in the place of 6
 
 -- 17: the program only: order above 9 or slots above 8; and at an entry m from 5 to 16
 abbrev pub tooLarge : ℕ → ℕ → Bool
@@ -61,7 +62,15 @@ startedBy s = said (afterStart (s .answer .number)) (s .campaign) (line.Started 
 unfoldable pub beganOutcome : Campaign → ℕ → ℕ → ℕ → List ℤ → List ℤ → Applied × List ℤ × List ℤ
 beganOutcome c N taps C store sums =
     outcome (logStartChecks N taps C) (λ n. (startedBy (record { answer = answerOf N taps n; campaign = c }), store, sums))
-    (over startedBy (startOutcome c N taps C store sums))
+    (over startedBy (startOutcome c N taps C awayFromZero store sums))
+
+-- ---- an edition: the campaign starts afresh in it; a refused one prints its line and stops
+
+abbrev pub editionBy : Started → Applied
+editionBy s = said (afterEdition (s .answer .number)) (s .campaign) (line.Edition (s .answer .number))
+
+abbrev pub editionOutcome : Campaign → ℕ → List ℤ → List ℤ → Applied × List ℤ × List ℤ
+editionOutcome c E store sums = over editionBy (startOutcome c (c .order) (c .taps) (c .capacity) E store sums)
 
 -- ---- a day is opened, has its samples, and is entered
 
@@ -79,7 +88,7 @@ keptSample m n v y = cond (unheld m) y (set y n v)
 
 abbrev pub tookSample : Phase → ℤ → List ℤ → Phase × List ℤ
 tookSample phase.Unbegun v y = (phase.Unbegun, y)
-tookSample phase.Between v y = (phase.Between, y)
+tookSample (phase.Between begun) v y = (phase.Between begun, y)
 tookSample (phase.Open d night n) v y = (afterSample d night n, keptSample (periodsOf night) n v y)
 tookSample phase.Stopped v y = (phase.Stopped, y)
 
@@ -102,17 +111,17 @@ enteredOutcome c d night n store sums y =
 
 abbrev pub closedOutcome : Phase → Campaign → List ℤ → List ℤ → List ℤ → Applied × List ℤ × List ℤ
 closedOutcome phase.Unbegun c store sums y = (said phase.Unbegun c line.Silent, store, sums)
-closedOutcome phase.Between c store sums y = (said phase.Between c line.Silent, store, sums)
+closedOutcome (phase.Between begun) c store sums y = (said (phase.Between begun) c line.Silent, store, sums)
 closedOutcome (phase.Open d night n) c store sums y = enteredOutcome c d night n store sums y
 closedOutcome phase.Stopped c store sums y = (said phase.Stopped c line.Silent, store, sums)
 
 -- ---- a day is withdrawn
 
-abbrev pub withdrawnBy : Phase → ℕ → Withdrawn → Applied
-withdrawnBy p d w = said p (w .campaign) (line.Withdrawn d (w .answer))
+abbrev pub withdrawnBy : ℕ → Withdrawn → Applied
+withdrawnBy d w = said afterOther (w .campaign) (line.Withdrawn d (w .answer))
 
-abbrev pub withdrewOutcome : Phase → Campaign → ℕ → List ℤ → List ℤ → Applied × List ℤ × List ℤ
-withdrewOutcome p c d store sums = over (withdrawnBy p d) (withdrawOutcome c store sums d)
+abbrev pub withdrewOutcome : Campaign → ℕ → List ℤ → List ℤ → Applied × List ℤ × List ℤ
+withdrewOutcome c d store sums = over (withdrawnBy d) (withdrawOutcome c store sums d)
 
 -- ---- the response is asked for, with the counts; P lines follow where it is not refused
 
@@ -120,20 +129,19 @@ abbrev pub tallied : Counts → Tally
 tallied (counts.Counted t) = t
 tallied (counts.Refused n) = record { unseen = 0; standing = 0; overloaded = 0; dead = 0; withdrawn = 0 }
 
-abbrev pub askedBy : Book → Counts → ℕ → Applied
-askedBy b n answer =
+abbrev pub askedBy : Campaign → Counts → ℕ → Applied
+askedBy c n answer =
     record {
-      book = b;
+      book = record { phase = afterOther; campaign = c };
       line = line.Answered answer (tallied n);
-      rows = answered answer (λ _. 0) (dayLength (b .campaign .order));
+      rows = answered answer (λ _. 0) (dayLength (c .order));
     }
 
-abbrev pub asks : Book → Counts → ℕ × List ℤ × List ℤ × List ℤ × List ℕ → Applied × List ℤ × List ℤ × List ℤ × List ℕ
-asks b n o = (askedBy b n (o .0), o .1, o .2, o .3, o .4)
+abbrev pub asks : Campaign → Counts → ℕ × List ℤ × List ℤ × List ℤ × List ℕ → Applied × List ℤ × List ℤ × List ℤ × List ℕ
+asks c n o = (askedBy c n (o .0), o .1, o .2, o .3, o .4)
 
-abbrev pub askedOutcome : Book → List ℤ → List ℤ → List ℤ → List ℤ → List ℤ → List ℕ → Applied × List ℤ × List ℤ × List ℤ × List ℕ
-askedOutcome b store sums r mean room tags =
-    asks b (countsOutcome (b .campaign) store sums) (responseOutcome (b .campaign) store sums r mean room tags)
+abbrev pub askedOutcome : Campaign → List ℤ → List ℤ → List ℤ → List ℤ → List ℤ → List ℕ → Applied × List ℤ × List ℤ × List ℤ × List ℕ
+askedOutcome c store sums r mean room tags = asks c (countsOutcome c store sums) (responseOutcome c store sums r mean room tags)
 
 -- ---- any item
 
@@ -166,6 +174,7 @@ applied b (item.Start N taps C) m = filing m (beganOutcome (b .campaign) N taps 
 applied b (item.Open d) m = (said (afterOpen d night.Period) (b .campaign) line.Silent, m)
 applied b (item.Sample v) m = sampling m (b .campaign) (tookSample (b .phase) v (m .recording))
 applied b item.Enter m = filing m (closedOutcome (b .phase) (b .campaign) (m .store) (m .sums) (m .recording))
-applied b (item.Withdraw d) m = filing m (withdrewOutcome (b .phase) (b .campaign) d (m .store) (m .sums))
-applied b item.Ask m = asking m (askedOutcome b (m .store) (m .sums) (m .r) (m .mean) (m .room) (m .tags))
+applied b (item.Withdraw d) m = filing m (withdrewOutcome (b .campaign) d (m .store) (m .sums))
+applied b item.Ask m = asking m (askedOutcome (b .campaign) (m .store) (m .sums) (m .r) (m .mean) (m .room) (m .tags))
 applied b (item.Capture d k) m = (said (afterOpen d (night.Capture k)) (b .campaign) line.Silent, m)
+applied b (item.Edition e) m = filing m (editionOutcome (b .campaign) e (m .store) (m .sums))

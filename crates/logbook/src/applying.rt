@@ -15,10 +15,11 @@ use campaign::withdrawing::withdraw;
 use judging::judging::judge;
 use log::Item;
 use log::Phase;
+use log::phases::after_answer;
 use log::phases::after_enter;
 use log::phases::after_open;
+use log::phases::after_other;
 use log::phases::after_sample;
-use log::phases::after_start;
 use log::phases::first_phase;
 use nights::MOST_PERIODS;
 use nights::Night;
@@ -32,6 +33,7 @@ use register::shift::full_period;
 use register::taps::taps_refusal;
 use register::telling::tell;
 use report::Line;
+use rounding::AWAY_FROM_ZERO;
 use trend::Counts;
 use trend::Tally;
 use trend::answering::response;
@@ -42,7 +44,7 @@ ghost use Rattle.sums.specs.Refusals.{first};
 ghost use Rattle.log.specs.Kinds.{kindSample};
 ghost use Rattle.log.specs.Phases.{mayStand};
 ghost use Rattle.log.specs.Log.{kindOf};
-ghost use Rattle.logbook.specs.Book.{unbegunBook, tooLarge, logStartChecks, dayLength, said, startedBy, beganOutcome, unheld, keptSample, tookSample};
+ghost use Rattle.logbook.specs.Book.{unbegunBook, tooLarge, logStartChecks, dayLength, said, startedBy, beganOutcome, editionBy, editionOutcome, unheld, keptSample, tookSample};
 ghost use Rattle.logbook.specs.Book.{logEnterChecks, judgedThenFiled, enteredBy, enteredOutcome, closedOutcome, withdrawnBy, withdrewOutcome, tallied, askedOutcome, memory, applied};
 
 // The state before the first item.
@@ -51,7 +53,7 @@ pub fn unbegun() -> Book
 {
     Book {
         phase: first_phase(),
-        campaign: blank(0, 0, 0),
+        campaign: blank(0, 0, 0, 0),
     }
 }
 
@@ -105,10 +107,14 @@ fn started_by(s: Started) -> Applied
 {
     let answer = s.answer;
     let campaign = s.campaign;
-    say(after_start(answer.number), campaign, Line::Started(answer))
+    say(
+        after_answer(true, answer.number),
+        campaign,
+        Line::Started(answer),
+    )
 }
 
-// A start, refusing 1, 2, 3, 4, 9, 17.
+// A start in edition 1, refusing 1, 2, 3, 4, 9, 17.
 fn begin(
     c: Campaign,
     order: u32,
@@ -126,7 +132,29 @@ fn begin(
             campaign: c,
         });
     }
-    started_by(start(c, order, taps, capacity, store, sums))
+    started_by(start(c, order, taps, capacity, AWAY_FROM_ZERO, store, sums))
+}
+
+fn edition_by(s: Started) -> Applied
+    ensures { λ r. ⌜ r ≡ editionBy s ⌝ }
+{
+    let answer = s.answer;
+    let campaign = s.campaign;
+    say(
+        after_answer(false, answer.number),
+        campaign,
+        Line::Edition(answer.number),
+    )
+}
+
+// The same campaign afresh in this edition, refusing 24.
+fn restart(c: Campaign, edition: u32, store: &mut [i32], sums: &mut [i64]) -> Applied
+    ensures { λ x. ⌜ (x, now (store .exit), now (sums .exit)) ≡ editionOutcome c edition (now (store .entry)) (now (sums .entry)) ⌝ }
+{
+    let order = c.order;
+    let taps = c.taps;
+    let capacity = c.capacity;
+    edition_by(start(c, order, taps, capacity, edition, store, sums))
 }
 
 // Whether the samples of a night of m periods are counted and not kept.
@@ -247,18 +275,18 @@ fn close(
     say(phase, c, Line::Silent)
 }
 
-fn withdrawn_by(phase: Phase, day: u32, w: Withdrawn) -> Applied
-    ensures { λ r. ⌜ r ≡ withdrawnBy phase day w ⌝ }
+fn withdrawn_by(day: u32, w: Withdrawn) -> Applied
+    ensures { λ r. ⌜ r ≡ withdrawnBy day w ⌝ }
 {
     let answer = w.answer;
     let campaign = w.campaign;
-    say(phase, campaign, Line::Withdrawn(day, answer))
+    say(after_other(), campaign, Line::Withdrawn(day, answer))
 }
 
-fn withdraw_day(phase: Phase, c: Campaign, day: u32, store: &mut [i32], sums: &mut [i64]) -> Applied
-    ensures { λ x. ⌜ (x, now (store .exit), now (sums .exit)) ≡ withdrewOutcome phase c day (now (store .entry)) (now (sums .entry)) ⌝ }
+fn withdraw_day(c: Campaign, day: u32, store: &mut [i32], sums: &mut [i64]) -> Applied
+    ensures { λ x. ⌜ (x, now (store .exit), now (sums .exit)) ≡ withdrewOutcome c day (now (store .entry)) (now (sums .entry)) ⌝ }
 {
-    withdrawn_by(phase, day, withdraw(c, store, sums, day))
+    withdrawn_by(day, withdraw(c, store, sums, day))
 }
 
 fn tally_or_none(counted: Counts) -> Tally
@@ -277,7 +305,7 @@ fn tally_or_none(counted: Counts) -> Tally
 }
 
 fn ask(
-    book: Book,
+    c: Campaign,
     store: &[i32],
     sums: &[i64],
     r: &mut [i64],
@@ -286,12 +314,15 @@ fn ask(
     tags: &mut [u16],
 ) -> Applied
     ensures { λ x. ⌜ (x, now (r .exit), now (mean .exit), now (room .exit), now (tags .exit))
-        ≡ askedOutcome book (now (store .entry)) (now (sums .entry)) (now (r .entry)) (now (mean .entry)) (now (room .entry)) (now (tags .entry)) ⌝ }
+        ≡ askedOutcome c (now (store .entry)) (now (sums .entry)) (now (r .entry)) (now (mean .entry)) (now (room .entry)) (now (tags .entry)) ⌝ }
 {
-    let c = book.campaign;
     let answer = response(c, store, sums, r, mean, room, tags);
     let tally = tally_or_none(counts(c, store, sums));
     let line = Line::Answered(answer, tally);
+    let book = Book {
+        phase: after_other(),
+        campaign: c,
+    };
     if answer != 0 {
         return Applied {
             book,
@@ -330,8 +361,9 @@ pub fn apply(
         Item::Open(day) => say(after_open(day, Night::Period), c, Line::Silent),
         Item::Sample(v) => say(take_sample(book, v, recording), c, Line::Silent),
         Item::Enter => close(phase, c, store, sums, recording),
-        Item::Withdraw(day) => withdraw_day(phase, c, day, store, sums),
-        Item::Ask => ask(book, store, sums, r, mean, room, tags),
+        Item::Withdraw(day) => withdraw_day(c, day, store, sums),
+        Item::Ask => ask(c, store, sums, r, mean, room, tags),
         Item::Capture(day, m) => say(after_open(day, Night::Capture(m)), c, Line::Silent),
+        Item::Edition(edition) => restart(c, edition, store, sums),
     }
 }

@@ -11,7 +11,7 @@ use Rattle.sums.specs.Lists.{seek, some, every, many, table, put, putAt}
 use Rattle.register.specs.Register.{dot, step, window, bit, wave, period}
 use Rattle.register.specs.Calls.{tapsAnswer}
 use Rattle.response.specs.Response as formula
-use Rattle.rounding.specs.Rounding.{nearest}
+use Rattle.rounding.specs.Rounding.{nearest, nearestIn}
 use Rattle.finding.specs.Finding.{finding}
 use Rattle.nights.specs.Nights.{term}
 use Rattle.records.specs.Record.{together}
@@ -48,7 +48,7 @@ exampleLines =
     ++ ascii "response 14 0 0 1 1\n"
 
 pub example-prints : logOutput example ≡ exampleLines
-unfolding logOutput output turn decoded applied beganOutcome startOutcome enteredOutcome fileOutcome judgeOutcome term finding withdrawOutcome countsOutcome responseOutcome rowsBytes digits together tapsAnswer period seek some every many total sum sign table put putAt nearest formula.response formula.correlation wave bit window step dot ones
+unfolding logOutput output turn decoded applied beganOutcome startOutcome enteredOutcome fileOutcome judgeOutcome term finding withdrawOutcome countsOutcome responseOutcome rowsBytes digits together tapsAnswer period seek some every many total sum sign table put putAt nearest nearestIn formula.response formula.correlation wave bit window step dot ones
 example-prints = refl
 
 -- request 1 of document 02: order 3, taps 3, 2 slots; day 1 with two periods behind a run-in, whose seven 8388607s are no overload; ask
@@ -67,8 +67,41 @@ captureLines =
     ascii "start 0\n" ++ ascii "enter 1 0 kept\n" ++ ascii "response 0 1 0 0 0\n" ++ ascii "0 122 8\n1 0 0\n2 -66 -4\n3 4 0\n4 0 0\n5 -2 0\n6 6 0\n"
 
 pub capture-prints : logOutput capture ≡ captureLines
-unfolding logOutput output turn decoded applied beganOutcome startOutcome enteredOutcome fileOutcome judgeOutcome term finding countsOutcome responseOutcome rowsBytes digits together tapsAnswer period seek some every many total sum sign table put putAt nearest formula.response formula.correlation wave bit window step dot ones
+unfolding logOutput output turn decoded applied beganOutcome startOutcome enteredOutcome fileOutcome judgeOutcome term finding countsOutcome responseOutcome rowsBytes digits together tapsAnswer period seek some every many total sum sign table put putAt nearest nearestIn formula.response formula.correlation wave bit window step dot ones
 capture-prints = refl
+
+-- request 9 of document 02: order 3, taps 3, 1 slot; what chooses an edition, or nothing; day 1 with -6, 9, 0, 5, -1, -1, -8; ask
+abbrev pub halvesLog : List ℕ → List ℕ
+halvesLog chosen =
+    (1 ∷ 3 ∷ 3 ∷ 0 ∷ 1 ∷ [])
+    ++ chosen
+    ++ (2 ∷ 1 ∷ 0 ∷ [])
+    ++ (3 ∷ 250 ∷ 255 ∷ 255 ∷ 3 ∷ 9 ∷ 0 ∷ 0 ∷ 3 ∷ 0 ∷ 0 ∷ 0 ∷ 3 ∷ 5 ∷ 0 ∷ 0 ∷ 3 ∷ 255 ∷ 255 ∷ 255 ∷ 3 ∷ 255 ∷ 255 ∷ 255 ∷ 3 ∷ 248 ∷ 255 ∷ 255 ∷ [])
+    ++ (4 ∷ [])
+    ++ (6 ∷ [])
+
+abbrev pub awayLines : List ℕ
+awayLines = ascii "enter 1 0 kept\n" ++ ascii "response 0 1 0 0 0\n" ++ ascii "0 -4 -1\n1 -12 -2\n2 4 1\n3 -24 -3\n4 20 3\n5 20 3\n6 12 2\n"
+
+abbrev pub evenLines : List ℕ
+evenLines = ascii "enter 1 0 kept\n" ++ ascii "response 0 1 0 0 0\n" ++ ascii "0 -4 0\n1 -12 -2\n2 4 0\n3 -24 -3\n4 20 2\n5 20 2\n6 12 2\n"
+
+pub record Editions : Type 0 where
+  pub none : logOutput (halvesLog []) ≡ ascii "start 0\n" ++ awayLines
+  pub one : logOutput (halvesLog (8 ∷ 1 ∷ [])) ≡ ascii "start 0\n" ++ ascii "edition 0\n" ++ awayLines
+  pub two : logOutput (halvesLog (8 ∷ 2 ∷ [])) ≡ ascii "start 0\n" ++ ascii "edition 0\n" ++ evenLines
+  pub three : logOutput (halvesLog (8 ∷ 3 ∷ [])) ≡ ascii "start 0\n" ++ ascii "edition 24\n"
+  -- twice, after an ask, and as the first item; and the input may end after it
+  pub twice : logOutput (halvesLog (8 ∷ 2 ∷ 8 ∷ 1 ∷ [])) ≡ ascii "start 0\n" ++ ascii "edition 0\n" ++ ascii "bad 7\n"
+  pub late : logOutput (halvesLog (6 ∷ 8 ∷ 2 ∷ [])) ≡ ascii "start 0\n" ++ ascii "response 14 0 0 0 0\n" ++ ascii "bad 6\n"
+  pub early : logOutput (8 ∷ 2 ∷ 1 ∷ 3 ∷ 3 ∷ 0 ∷ 1 ∷ []) ≡ ascii "bad 0\n"
+  pub alone : logOutput (1 ∷ 3 ∷ 3 ∷ 0 ∷ 1 ∷ 8 ∷ 2 ∷ []) ≡ ascii "start 0\n" ++ ascii "edition 0\n"
+  pub cut : logOutput (1 ∷ 3 ∷ 3 ∷ 0 ∷ 1 ∷ 8 ∷ []) ≡ ascii "start 0\n" ++ ascii "bad 5\n"
+
+pub editions-print : Editions
+unfolding logOutput output turn decoded applied beganOutcome startOutcome enteredOutcome fileOutcome judgeOutcome term finding countsOutcome responseOutcome rowsBytes digits together tapsAnswer period seek some every many total sum sign table put putAt nearest nearestIn formula.response formula.correlation wave bit window step dot ones
+editions-print =
+    record { none = refl; one = refl; two = refl; three = refl; twice = refl; late = refl; early = refl; alone = refl; cut = refl }
 
 -- order 2, taps 3, 1 slot; a day of m periods behind a run-in, with one sample, which is not kept
 abbrev pub unkeptLog : ℕ → ℕ → List ℕ

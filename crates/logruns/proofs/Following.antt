@@ -17,6 +17,7 @@ use Rattle.sums.proofs.Tables.{length-put, length-table}
 use Rattle.register.specs.Register.{P}
 use Rattle.register.specs.Calls.{answerOf}
 use Rattle.register.specs.declared.Answer.{Answer}
+use Rattle.rounding.specs.Rounding.{awayFromZero}
 use Rattle.nights.specs.Nights.{periodsOf}
 use Rattle.nights.specs.declared.Night.{Night}
 use Rattle.records.specs.Record.{fresh}
@@ -25,7 +26,7 @@ use Rattle.judging.specs.Judging.{judging}
 use Rattle.campaign.specs.Calls.{startOutcome, entered, handed}
 use Rattle.campaign.specs.declared.Verdict.the-variants as verdict
 use Rattle.trend.specs.Calls.{responseChecks, responseOutcome, worked, meanAt}
-use Rattle.history.specs.Run.{World, Call, start, judge, file, withdraw, counts, response, after, run, underWay, begun}
+use Rattle.history.specs.Run.{World, Call, start, judge, file, withdraw, counts, response, after, accepted, run, underWay, begun}
 use Rattle.history.specs.Run as run-of
 use Rattle.history.proofs.UnderWay.{stays-under-way, same-campaign, started, started-campaign}
 use Rattle.history.proofs.History.{says}
@@ -35,7 +36,7 @@ use Rattle.log.specs.declared.Phase.the-variants as phase
 use Rattle.log.specs.declared.Item.{Item}
 use Rattle.log.specs.declared.Found.{Found}
 use Rattle.log.specs.declared.Found.the-variants as found
-use Rattle.log.proofs.Finding.{Fits, starts, opens, captures, withdraws, asks, samples, enters, whole, bad, end}
+use Rattle.log.proofs.Finding.{Fits, starts, editions, opens, captures, withdraws, asks, samples, enters, whole, bad, end}
 use Rattle.logbook.specs.Book.{Memory, dayLength, logStartChecks, over, startedBy, beganOutcome, unheld, logEnterChecks, judgedThenFiled, enteredBy, enteredOutcome, filing, applied}
 use Rattle.logbook.specs.declared.Applied.{Applied}
 use Rattle.logbook.proofs.Starts as starting
@@ -57,8 +58,8 @@ pub record Running (calls : List Call) (c : Campaign) (m : Memory) : Type 0 wher
 
 -- before the start there are no calls, and after a refused one nothing more is read
 pub data Follows (calls : List Call) (c : Campaign) (m : Memory) : Phase → Type 0 where
-  unbegun : c ≡ fresh 0 0 0 → m ≡ firstMemory → calls ≡ [] → Follows calls c m phase.Unbegun
-  between : Running calls c m → Follows calls c m phase.Between
+  unbegun : c ≡ fresh 0 0 0 0 → m ≡ firstMemory → calls ≡ [] → Follows calls c m phase.Unbegun
+  between : {b : Bool} → Running calls c m → Follows calls c m (phase.Between b)
   inside : {d n : ℕ} {night : Night} → Running calls c m → Follows calls c m (phase.Open d night n)
   stopped : Follows calls c m phase.Stopped
 
@@ -82,24 +83,24 @@ first-room =
 abbrev began : ℕ → ℕ → ℕ → ℕ → Applied × Memory
 began N taps C k =
     filing firstMemory
-    (answered k (λ n. (startedBy (record { answer = answerOf N taps n; campaign = fresh 0 0 0 }), zeros 4088, zeros 511))
-    (over startedBy (startOutcome (fresh 0 0 0) N taps C (zeros 4088) (zeros 511))))
+    (answered k (λ n. (startedBy (record { answer = answerOf N taps n; campaign = fresh 0 0 0 0 }), zeros 4088, zeros 511))
+    (over startedBy (startOutcome (fresh 0 0 0 0) N taps C awayFromZero (zeros 4088) (zeros 511))))
 
 -- a start of the campaign goes on or stops by its answer
-by-answer : {calls : List Call} {c : Campaign} {m : Memory} (n : ℕ) → Running calls c m → Follows calls c m (answered n (λ _. phase.Stopped) phase.Between)
-by-answer zero r = between r
-by-answer (suc n) r = stopped
+by-answer : (b : Bool) {calls : List Call} {c : Campaign} {m : Memory} (n : ℕ) → Running calls c m → Follows calls c m (answered n (λ _. phase.Stopped) (phase.Between b))
+by-answer b zero r = between r
+by-answer b (suc n) r = stopped
 
 began-follows : (N taps C k : ℕ) → first (logStartChecks N taps C) ≡ k
-    → Follows (answered k (λ _. []) (start N taps C ∷ []) ++ []) (began N taps C k .0 .book .campaign) (began N taps C k .1) (began N taps C k .0 .book .phase)
+    → Follows (answered k (λ _. []) (start N taps C awayFromZero ∷ []) ++ []) (began N taps C k .0 .book .campaign) (began N taps C k .1) (began N taps C k .0 .book .phase)
 unfolding run
 began-follows N taps C (suc k) e = stopped
 began-follows N taps C zero e =
-    let a = ap (λ (x : Answer). x .number) (starting.accepted (fresh 0 0 0) N taps C (zeros 4088) (zeros 511)
+    let a = ap (λ (x : Answer). x .number) (starting.accepted (fresh 0 0 0 0) N taps C (zeros 4088) (zeros 511)
     (omega (arith, length-replicate {A = ℤ} 4088 (pos 0))) (omega (arith, length-replicate {A = ℤ} 511 (pos 0))) e) in
-    by-answer (startOutcome (fresh 0 0 0) N taps C (zeros 4088) (zeros 511) .0 .answer .number) (record {
-      going = started firstWorld N taps C [] a;
-      few = subst (λ (x : Campaign). x .order ≤ 9) (sym (started-campaign firstWorld N taps C [] a)) (few-slots N taps C e);
+    by-answer true (startOutcome (fresh 0 0 0 0) N taps C awayFromZero (zeros 4088) (zeros 511) .0 .answer .number) (record {
+      going = started firstWorld N taps C awayFromZero [] a;
+      few = subst (λ (x : Campaign). x .order ≤ 9) (sym (started-campaign firstWorld N taps C awayFromZero [] a)) (few-slots N taps C e);
       world = refl;
       room = first-room;
     })
@@ -146,10 +147,28 @@ onward-running {calls} r call n w o =
       room = o;
     }
 
+-- a start of the same campaign, accepted or refused
+restarted : {calls : List Call} {c : Campaign} {m : Memory} → Running calls c m → (E : ℕ)
+    → let o = startOutcome c (c .order) (c .taps) (c .capacity) E (m .store) (m .sums) in let call = start (c .order) (c .taps) (c .capacity) E in
+    (l : Memory) → l .store ≡ o .1 → l .sums ≡ o .2 → RoomFor 9 (l .r) (l .mean) (l .room) (l .tags) → Running (call ∷ calls) (o .0 .campaign) l
+unfolding run begun
+restarted {calls} {c} {m} r E l e f o =
+    let call = start (c .order) (c .taps) (c .capacity) E in
+    record {
+      going = stays-under-way firstWorld call calls (r .going);
+      few = either (accepted (run firstWorld calls) call) (fresh (c .order) (c .taps) (c .capacity) E) (begun firstWorld calls) (order-few r) (r .few);
+      world = rw (e, f) (ap (λ w. after w call) (r .world));
+      room = o;
+    }
+  where
+    either : (b : Bool) (x y : Campaign) → x .order ≤ 9 → y .order ≤ 9 → cond b x y .order ≤ 9
+    either true x y p q = p
+    either false x y p q = q
+
 module _ (c : Campaign) (m : Memory) (calls : List Call) where
-  start-follows : (N taps C : ℕ) → c ≡ fresh 0 0 0 → m ≡ firstMemory → calls ≡ []
+  start-follows : (N taps C : ℕ) → c ≡ fresh 0 0 0 0 → m ≡ firstMemory → calls ≡ []
       → let o = filing m (beganOutcome c N taps C (m .store) (m .sums)) in
-      Follows (answered (first (logStartChecks N taps C)) (λ _. []) (start N taps C ∷ []) ++ calls) (o .0 .book .campaign) (o .1) (o .0 .book .phase)
+      Follows (answered (first (logStartChecks N taps C)) (λ _. []) (start N taps C awayFromZero ∷ []) ++ calls) (o .0 .book .campaign) (o .1) (o .0 .book .phase)
   unfolding beganOutcome
   start-follows N taps C e f g = rw (e, f, g) (began-follows N taps C (first (logStartChecks N taps C)) refl)
 
@@ -180,6 +199,8 @@ module _ (D : ℕ) (c : Campaign) (m : Memory) (offset : ℕ) (going : Bool) (ca
       → FollowsAt (callsOf (standing-at p) y i ++ calls) (turnOn (standing-at p) (found.Whole i k) .place)
   unfolding applied run
   item-follows y p i k (starts {N} {taps} {C}) _ (unbegun e f g) = start-follows c m calls N taps C e f g
+  item-follows y p i k (editions {e}) _ (between r) =
+      by-answer false (startOutcome c (c .order) (c .taps) (c .capacity) e (m .store) (m .sums) .0 .answer .number) (restarted r e _ refl refl (r .room))
   item-follows y p i k opens _ (between r) = inside r
   item-follows y p i k captures _ (between r) = inside r
   item-follows y p i k (withdraws {d}) _ (between r) = between (onward-running r (withdraw d) refl (ap (λ w. after w (withdraw d)) (r .world)) (r .room))

@@ -2,4 +2,5 @@
 pub mod Printing
 pub mod Recording
 pub mod Following
+pub mod Editions
 pub mod Promises

@@ -1,9 +1,9 @@
--- What every log is promised: no line of it says 15, 6 or 23, a start prints its answer and after 4 how short the period is, an entry prints its answer or,
+-- What every log is promised: no line of it says 15, 6 or 23, a start prints its answer and after 4 how short the period is, an edition prints 0 or 24, an entry prints its answer or,
 -- where the samples are not kept, the first of 10, 18, 17, and what a response prints is what the history of its calls says, the third demand. For every
 -- input, and after any number of turns. Assumes nothing.
 use mathlib.Core.Path.{_≡_, refl, sym, ap, subst, _∙_}
-use mathlib.Core.Bool.{true, false, cond}
-use mathlib.Core.List.{List, [], _++_, append-nil}
+use mathlib.Core.Bool.{Bool, true, false, cond}
+use mathlib.Core.List.{List, [], _∷_, _++_, append-nil}
 use Prim.Native.Nat.{ℕ, suc, _+_, _*_, _≤_, _<_}
 use native.Mathlib.Omega.{arith}
 use borrow.Author.Tests.{le-leb}
@@ -17,6 +17,7 @@ use Rattle.sums.specs.Text.{ascii}
 use Rattle.sums.specs.Refusals.{first, answered}
 use Rattle.register.specs.Register.{P, wave, period}
 use Rattle.register.specs.Calls.{told, answerOf}
+use Rattle.register.specs.declared.Answer.{Answer}
 use Rattle.register.proofs.HowShort.{how-short}
 use Rattle.register.proofs.Judged.{FirstReturn}
 use Rattle.response.specs.Response.{prediction}
@@ -24,9 +25,11 @@ use Rattle.nights.specs.Nights.{periodsOf}
 use Rattle.nights.specs.declared.Night.{Night}
 use Rattle.records.specs.Record.{unseen, standing, overloaded, dead, withdrawn, together}
 use Rattle.records.specs.declared.Campaign.{Campaign}
+use Rattle.records.proofs.Holding.{holds-together}
 use Rattle.records.proofs.Refiling.{Day}
-use Rattle.campaign.specs.Calls.{enterAll, entered, enterOutcome, withdrawChecks, withdrawOutcome}
+use Rattle.campaign.specs.Calls.{editionOut, startOutcome, enterAll, entered, enterOutcome, withdrawChecks, withdrawOutcome}
 use Rattle.campaign.proofs.EntryCases.{entry-first}
+use Rattle.campaign.proofs.Passing.{start-tells, afresh}
 use Rattle.campaign.specs.declared.Entered.{Entered}
 use Rattle.campaign.specs.declared.Verdict.the-variants as verdict
 use Rattle.campaign.specs.declared.Withdrawn.{Withdrawn}
@@ -36,13 +39,14 @@ use Rattle.trend.specs.declared.Tally.{Tally}
 use Rattle.history.specs.Run.{World, Call, enter, withdraw, response, answer, begun, made, heard}
 use Rattle.history.proofs.Answers.{RoomFor}
 use Rattle.history.proofs.EveryRun as every
+use Rattle.log.specs.Phases.{afterOther}
 use Rattle.log.specs.declared.Phase.{Phase}
 use Rattle.log.specs.declared.Phase.the-variants as phase
 use Rattle.log.specs.declared.Item.{Item}
 use Rattle.log.specs.declared.Item.the-variants as item
 use Rattle.log.specs.declared.Found.the-variants as found
-use Rattle.log.proofs.Finding.{Fits, starts, opens, captures, withdraws, asks, samples, enters, whole-fits}
-use Rattle.report.specs.Lines.{digits, spaced, lineEnd, startLine, lineBytes, responseLine}
+use Rattle.log.proofs.Finding.{Fits, starts, editions, opens, captures, withdraws, asks, samples, enters, whole-fits}
+use Rattle.report.specs.Lines.{digits, spaced, lineEnd, startLine, editionLine, lineBytes, responseLine}
 use Rattle.report.specs.declared.Line.the-variants as line
 use Rattle.logbook.specs.Book.{Memory, logStartChecks, dayLength, unheld, logEnterChecks, enteredBy, enteredOutcome, closedOutcome, tallied, filing, applied}
 use Rattle.logbook.specs.declared.Applied.{Applied}
@@ -129,6 +133,20 @@ module _ (D : ℕ) (c : Campaign) (m : Memory) (calls : List Call) where
       ))
       (λ _. let z = take n (m .recording) in (no-fifteen r (enter d night z), entry-lacks r d night z 6 tt, entry-lacks r d night z 23 tt))
 
+  -- nothing but 24 refuses an edition
+  edition-number : (E : ℕ) → Running calls c m
+      → startOutcome c (c .order) (c .taps) (c .capacity) E (m .store) (m .sums) .0 .answer .number ≡ first ((24, editionOut E) ∷ [])
+  edition-number E r =
+      ap (λ (a : Answer). a .number) (start-tells c (c .order) (c .taps) (c .capacity) E (m .store) (m .sums))
+      ∙ afresh c (m .store) (m .sums) (holds-together c (m .store) (m .sums) .0 (holds r)) E
+
+  edition-spared : (E : ℕ) → Running calls c m → Spared (startOutcome c (c .order) (c .taps) (c .capacity) E (m .store) (m .sums) .0 .answer .number)
+  edition-spared E r = rw (edition-number E r) (go (editionOut E))
+    where
+      go : (b : Bool) → Spared (first ((24, b) ∷ []))
+      go true = (λ h. omega arith, λ h. omega arith, λ h. omega arith)
+      go false = (λ h. omega arith, λ h. omega arith, λ h. omega arith)
+
   item-number : (p : Phase) (i : Item) → Fits D p i → Follows calls c m p → Spared (number p i)
   unfolding applied
   item-number p i (starts {N} {taps} {C}) (unbegun e f g) = (
@@ -136,6 +154,7 @@ module _ (D : ℕ) (c : Campaign) (m : Memory) (calls : List Call) where
     λ h. not-first 6 (logStartChecks N taps C) tt (sym (ap lineNumber (start-line p N taps C f)) ∙ h),
     λ h. not-first 23 (logStartChecks N taps C) tt (sym (ap lineNumber (start-line p N taps C f)) ∙ h),
   )
+  item-number p i (editions {e}) (between r) = edition-spared e r
   item-number p i opens (between r) = (λ h. omega arith, λ h. omega arith, λ h. omega arith)
   item-number p i captures (between r) = (λ h. omega arith, λ h. omega arith, λ h. omega arith)
   item-number p i (withdraws {d}) (between r) = (no-fifteen r (withdraw d), withdrawal-lacks r d 6 tt, withdrawal-lacks r d 23 tt)
@@ -210,6 +229,26 @@ module _ (n : ℕ) (input : List ℕ) (N taps C k : ℕ) (stands : standsAt (her
       (how-short N taps (logStartChecks N taps C) refl tt 0 .short e) in
       (prints-start ∙ ap (λ a. startLine (answerOf N taps a)) e, s .0, s .1)
 
+-- ---- what an edition prints, where one stands after n turns: 0, or 24 where it is neither 1 nor 2
+
+module _ (n : ℕ) (input : List ℕ) (E k : ℕ) (stands : standsAt (here n input) (reached n input .left) true ≡ found.Whole (item.Edition E) k) where
+  by-edition : (p : Phase) → Fits (dayLength (here n input .book .campaign .order)) p (item.Edition E)
+      → Follows (reached n input .calls) (here n input .book .campaign) (here n input .memory) p
+      → let m = here n input .memory in
+      let c = here n input .book .campaign in
+      startOutcome c (c .order) (c .taps) (c .capacity) E (m .store) (m .sums) .0 .answer .number ≡ first ((24, editionOut E) ∷ [])
+  by-edition p editions (between r) =
+      edition-number (dayLength (here n input .book .campaign .order)) (here n input .book .campaign) (here n input .memory) (reached n input .calls) E r
+
+  pub prints-edition : said n input ≡ editionLine (first ((24, editionOut E) ∷ []))
+  unfolding applied rowsBytes
+  prints-edition =
+      let m = here n input .memory in
+      let c = here n input .book .campaign in
+      text-is n input (item.Edition E) k stands
+      ∙ append-nil (editionLine (startOutcome c (c .order) (c .taps) (c .capacity) E (m .store) (m .sums) .0 .answer .number))
+      ∙ ap editionLine (by-edition (here n input .book .phase) (fits n input (item.Edition E) k stands) (follows n input))
+
 -- ---- what an entry prints, where one stands after n turns in an open day
 
 module _ (n : ℕ) (input : List ℕ) (k : ℕ) (stands : standsAt (here n input) (reached n input .left) true ≡ found.Whole item.Enter k) (d i : ℕ)
@@ -261,7 +300,7 @@ module _ (n : ℕ) (input : List ℕ) (k : ℕ) (stands : standsAt (here n input
         ∙ ap (λ l. l ++ reached n input .calls) (answered-refused (λ _. []) (pair c d night y) (unkeptAnswer d night) (unkept-refused d night))
 
     pub unkept-stays : onward (reached n input) .place
-        ≡ record { book = record { phase = phase.Between; campaign = c }; memory = m; offset = here n input .offset + k; going = true }
+        ≡ record { book = record { phase = afterOther; campaign = c }; memory = m; offset = here n input .offset + k; going = true }
     unkept-stays =
         ap (λ t. t .place)
         (turns (here n input) (reached n input .left) true ∙ ap (turnOn (here n input)) stands

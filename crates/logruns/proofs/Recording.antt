@@ -12,6 +12,7 @@ use lib.Seq.{take-suc-set}
 use Rattle.sums.proofs.First.{outcome-cases}
 use Rattle.sums.specs.Refusals.{answered}
 use Rattle.register.specs.Calls.{answerOf}
+use Rattle.rounding.specs.Rounding.{awayFromZero}
 use Rattle.nights.specs.Nights.{periodsOf}
 use Rattle.nights.specs.declared.Night.{Night}
 use Rattle.records.specs.declared.Campaign.{Campaign}
@@ -20,7 +21,7 @@ use Rattle.log.specs.declared.Phase.{Phase}
 use Rattle.log.specs.declared.Phase.the-variants as phase
 use Rattle.log.specs.declared.Item.{Item}
 use Rattle.log.specs.declared.Found.{Found}
-use Rattle.log.proofs.Finding.{Fits, starts, opens, captures, withdraws, asks, samples, enters, whole, bad, end}
+use Rattle.log.proofs.Finding.{Fits, starts, editions, opens, captures, withdraws, asks, samples, enters, whole, bad, end}
 use Rattle.logbook.specs.Book.{Memory, logStartChecks, over, startedBy, beganOutcome, unheld, keptSample, logEnterChecks, enteredOutcome, applied}
 use Rattle.logbook.specs.declared.Applied.{Applied}
 use Rattle.logbook.proofs.Rows.{day-short}
@@ -32,7 +33,7 @@ use Rattle.logruns.specs.Calls.{samplesOf, samplesAt, Reached, onward, r
 -- y are the samples that came, where a day is open and they are kept
 pub data Sampled (y recording : List ℤ) : Phase → Type 0 where
   unbegun : Sampled y recording phase.Unbegun
-  between : Sampled y recording phase.Between
+  between : {b : Bool} → Sampled y recording (phase.Between b)
   inside : {d n : ℕ} {night : Night} → (unheld (periodsOf night) ≡ false → take n recording ≡ y) → Sampled y recording (phase.Open d night n)
   stopped : Sampled y recording phase.Stopped
 
@@ -43,18 +44,18 @@ pub record SampledAt (y : List ℤ) (p : Place) : Type 0 where
 -- ---- one item
 
 module _ (y : List ℤ) (c : Campaign) (m : Memory) where
-  -- after a start no day is open
-  closed : (k : ℕ) → Sampled y (m .recording) (answered k (λ _. phase.Stopped) phase.Between)
-  closed zero = between
-  closed (suc k) = stopped
+  -- after a start or an edition no day is open
+  closed : (b : Bool) (k : ℕ) → Sampled y (m .recording) (answered k (λ _. phase.Stopped) (phase.Between b))
+  closed b zero = between
+  closed b (suc k) = stopped
 
   start-closed : (N taps C : ℕ) → Sampled y (m .recording) (beganOutcome c N taps C (m .store) (m .sums) .0 .book .phase)
   unfolding beganOutcome
   start-closed N taps C =
       outcome-cases {A = Applied × List ℤ × List ℤ} (logStartChecks N taps C) tt
       (λ n. (startedBy (record { answer = answerOf N taps n; campaign = c }), m .store, m .sums))
-      (over startedBy (startOutcome c N taps C (m .store) (m .sums))) (λ o. Sampled y (m .recording) (o .0 .book .phase))
-      (λ n _ _. closed n) (λ _. closed (startOutcome c N taps C (m .store) (m .sums) .0 .answer .number))
+      (over startedBy (startOutcome c N taps C awayFromZero (m .store) (m .sums))) (λ o. Sampled y (m .recording) (o .0 .book .phase))
+      (λ n _ _. closed true n) (λ _. closed true (startOutcome c N taps C awayFromZero (m .store) (m .sums) .0 .answer .number))
 
   -- nor after an entry
   entry-closed : (d n : ℕ) (night : Night) → Sampled y (m .recording) (enteredOutcome c d night n (m .store) (m .sums) (m .recording) .0 .book .phase)
@@ -81,6 +82,7 @@ module _ (y : List ℤ) (c : Campaign) (m : Memory) where
       (length (o .1 .recording) ≡ length (m .recording)) × Sampled (samplesOf y i) (o .1 .recording) (o .0 .book .phase)
   unfolding applied
   item-samples p i (starts {N} {taps} {C}) l s = (refl, start-closed N taps C)
+  item-samples p i (editions {e}) l s = (refl, closed false (startOutcome c (c .order) (c .taps) (c .capacity) e (m .store) (m .sums) .0 .answer .number))
   item-samples p i opens l s = (refl, inside (λ _. refl))
   item-samples p i captures l s = (refl, inside (λ _. refl))
   item-samples p i withdraws l s = (refl, between)

@@ -1,4 +1,4 @@
-// The doors of a campaign's calls but those that file a night: the record crosses as three numbers and three lent tables.
+// The doors of a campaign's calls but those that file a night: the record crosses as four numbers and three lent tables.
 use crate::periods::write_answer;
 use crate::tables::read_record;
 use crate::tables::tables_short;
@@ -22,6 +22,7 @@ pub extern "C" fn meter_start(
     order: u32,
     taps: u32,
     capacity: u32,
+    edition: u32,
     days: &mut [u8],
     slots: &mut [u16],
     periods: &mut [u8],
@@ -30,15 +31,15 @@ pub extern "C" fn meter_start(
     period: &mut u32,
 ) -> u32
     ensures { λ r. ⌜ ((r, now (days .exit), now (slots .exit), now (periods .exit), now (store .exit), now (sums .exit))
-        ≡ startDoor order taps capacity (now (days .entry)) (now (slots .entry)) (now (periods .entry)) (now (store .entry)) (now (sums .entry)))
+        ≡ startDoor order taps capacity edition (now (days .entry)) (now (slots .entry)) (now (periods .entry)) (now (store .entry)) (now (sums .entry)))
         × (now (period .exit) ≡ told order taps r (now (period .entry))) ⌝ }
 {
     if tables_short(days.len(), slots.len(), periods.len()) {
-        let refusal = start_refusal(order, taps, capacity, 0, 0);
+        let refusal = start_refusal(order, taps, capacity, edition, 0, 0);
         return write_answer(tell(order, taps, refusal), period);
     }
-    let c = read_record(order, taps, capacity, days, slots, periods);
-    let started = start(c, order, taps, capacity, store, sums);
+    let c = read_record(order, taps, capacity, edition, days, slots, periods);
+    let started = start(c, order, taps, capacity, edition, store, sums);
     let made = started.campaign;
     write_record(made, days, slots, periods);
     let answer = started.answer;
@@ -50,6 +51,7 @@ pub extern "C" fn meter_withdraw(
     order: u32,
     taps: u32,
     capacity: u32,
+    edition: u32,
     days: &mut [u8],
     slots: &mut [u16],
     periods: &mut [u8],
@@ -58,12 +60,12 @@ pub extern "C" fn meter_withdraw(
     day: u32,
 ) -> u32
     ensures { λ r. ⌜ (r, now (days .exit), now (slots .exit), now (periods .exit), now (store .exit), now (sums .exit))
-        ≡ withdrawDoor order taps capacity (now (days .entry)) (now (slots .entry)) (now (periods .entry)) (now (store .entry)) (now (sums .entry)) day ⌝ }
+        ≡ withdrawDoor order taps capacity edition (now (days .entry)) (now (slots .entry)) (now (periods .entry)) (now (store .entry)) (now (sums .entry)) day ⌝ }
 {
     if tables_short(days.len(), slots.len(), periods.len()) {
         return 15;
     }
-    let c = read_record(order, taps, capacity, days, slots, periods);
+    let c = read_record(order, taps, capacity, edition, days, slots, periods);
     let withdrawn = withdraw(c, store, sums, day);
     let made = withdrawn.campaign;
     write_record(made, days, slots, periods);
@@ -75,6 +77,7 @@ pub extern "C" fn meter_response(
     order: u32,
     taps: u32,
     capacity: u32,
+    edition: u32,
     days: &[u8],
     slots: &[u16],
     periods: &[u8],
@@ -86,13 +89,13 @@ pub extern "C" fn meter_response(
     tags: &mut [u16],
 ) -> u32
     ensures { λ x. ⌜ (x, now (r .exit), now (mean .exit), now (room .exit), now (tags .exit))
-        ≡ responseDoor order taps capacity (now (days .entry)) (now (slots .entry)) (now (periods .entry)) (now (store .entry)) (now (sums .entry))
+        ≡ responseDoor order taps capacity edition (now (days .entry)) (now (slots .entry)) (now (periods .entry)) (now (store .entry)) (now (sums .entry))
         (now (r .entry)) (now (mean .entry)) (now (room .entry)) (now (tags .entry)) ⌝ }
 {
     if tables_short(days.len(), slots.len(), periods.len()) {
         return 15;
     }
-    let c = read_record(order, taps, capacity, days, slots, periods);
+    let c = read_record(order, taps, capacity, edition, days, slots, periods);
     response(c, store, sums, r, mean, room, tags)
 }
 
@@ -101,6 +104,7 @@ pub extern "C" fn meter_counts(
     order: u32,
     taps: u32,
     capacity: u32,
+    edition: u32,
     days: &[u8],
     slots: &[u16],
     periods: &[u8],
@@ -113,13 +117,13 @@ pub extern "C" fn meter_counts(
     withdrawn: &mut u32,
 ) -> u32
     ensures { λ r. ⌜ (r, record { unseen = now (unseen .exit); standing = now (standing .exit); overloaded = now (overloaded .exit); dead = now (dead .exit); withdrawn = now (withdrawn .exit) })
-        ≡ countsDoor order taps capacity (now (days .entry)) (now (slots .entry)) (now (periods .entry)) (now (store .entry)) (now (sums .entry))
+        ≡ countsDoor order taps capacity edition (now (days .entry)) (now (slots .entry)) (now (periods .entry)) (now (store .entry)) (now (sums .entry))
         (record { unseen = now (unseen .entry); standing = now (standing .entry); overloaded = now (overloaded .entry); dead = now (dead .entry); withdrawn = now (withdrawn .entry) }) ⌝ }
 {
     if tables_short(days.len(), slots.len(), periods.len()) {
         return 15;
     }
-    let c = read_record(order, taps, capacity, days, slots, periods);
+    let c = read_record(order, taps, capacity, edition, days, slots, periods);
     let counted = counts(c, store, sums);
     write_counts(counted, unseen, standing, overloaded, dead, withdrawn)
 }
@@ -129,6 +133,7 @@ pub extern "C" fn meter_summary(
     order: u32,
     taps: u32,
     capacity: u32,
+    edition: u32,
     days: &[u8],
     slots: &[u16],
     periods: &[u8],
@@ -142,14 +147,14 @@ pub extern "C" fn meter_summary(
     peak: &mut f64,
 ) -> u32
     ensures { λ x. ⌜ (x, now (room .exit), now (tags .exit), now (stands .exit), record { highest = now (highest .exit); lowest = now (lowest .exit); peak = now (peak .exit) })
-        ≡ summaryDoor order taps capacity (now (days .entry)) (now (slots .entry)) (now (periods .entry)) (now (store .entry)) (now (sums .entry))
+        ≡ summaryDoor order taps capacity edition (now (days .entry)) (now (slots .entry)) (now (periods .entry)) (now (store .entry)) (now (sums .entry))
         (now (room .entry)) (now (tags .entry)) (now (stands .entry))
         (record { highest = now (highest .entry); lowest = now (lowest .entry); peak = now (peak .entry) }) ⌝ }
 {
     if tables_short(days.len(), slots.len(), periods.len()) {
         return 15;
     }
-    let c = read_record(order, taps, capacity, days, slots, periods);
+    let c = read_record(order, taps, capacity, edition, days, slots, periods);
     let found = summary(c, store, sums, room, tags);
     write_summary(found, stands, highest, lowest, peak)
 }

@@ -17,6 +17,7 @@ fn file_night(
     order: u32,
     taps: u32,
     capacity: u32,
+    edition: u32,
     days: &mut [u8],
     slots: &mut [u16],
     periods: &mut [u8],
@@ -30,13 +31,13 @@ fn file_night(
     value: &mut usize,
 ) -> u32
     ensures { λ r. ⌜ (r, now (days .exit), now (slots .exit), now (periods .exit), now (store .exit), now (sums .exit), now (state .exit), now (value .exit))
-        ≡ fileDoor order taps capacity (now (days .entry)) (now (slots .entry)) (now (periods .entry)) (now (store .entry)) (now (sums .entry)) day night (now (y .entry))
+        ≡ fileDoor order taps capacity edition (now (days .entry)) (now (slots .entry)) (now (periods .entry)) (now (store .entry)) (now (sums .entry)) day night (now (y .entry))
         shown (now (state .entry)) (now (value .entry)) ⌝ }
 {
     if tables_short(days.len(), slots.len(), periods.len()) {
         return 15;
     }
-    let c = read_record(order, taps, capacity, days, slots, periods);
+    let c = read_record(order, taps, capacity, edition, days, slots, periods);
     let entered = file_shown(c, store, sums, day, night, y, shown);
     let made = entered.campaign;
     write_record(made, days, slots, periods);
@@ -50,6 +51,7 @@ fn file_said(
     order: u32,
     taps: u32,
     capacity: u32,
+    edition: u32,
     days: &mut [u8],
     slots: &mut [u16],
     periods: &mut [u8],
@@ -64,13 +66,14 @@ fn file_said(
     value: &mut usize,
 ) -> u32
     ensures { λ r. ⌜ (r, now (days .exit), now (slots .exit), now (periods .exit), now (store .exit), now (sums .exit), now (state .exit), now (value .exit))
-        ≡ fileDoor order taps capacity (now (days .entry)) (now (slots .entry)) (now (periods .entry)) (now (store .entry)) (now (sums .entry)) day night (now (y .entry))
+        ≡ fileDoor order taps capacity edition (now (days .entry)) (now (slots .entry)) (now (periods .entry)) (now (store .entry)) (now (sums .entry)) day night (now (y .entry))
         (handed (pairSays shown place)) (now (state .entry)) (now (value .entry)) ⌝ }
 {
     file_night(
         order,
         taps,
         capacity,
+        edition,
         days,
         slots,
         periods,
@@ -90,6 +93,7 @@ pub extern "C" fn meter_enter(
     order: u32,
     taps: u32,
     capacity: u32,
+    edition: u32,
     days: &mut [u8],
     slots: &mut [u16],
     periods: &mut [u8],
@@ -101,13 +105,14 @@ pub extern "C" fn meter_enter(
     value: &mut usize,
 ) -> u32
     ensures { λ r. ⌜ (r, now (days .exit), now (slots .exit), now (periods .exit), now (store .exit), now (sums .exit), now (state .exit), now (value .exit))
-        ≡ fileDoor order taps capacity (now (days .entry)) (now (slots .entry)) (now (periods .entry)) (now (store .entry)) (now (sums .entry)) day period (now (y .entry))
+        ≡ fileDoor order taps capacity edition (now (days .entry)) (now (slots .entry)) (now (periods .entry)) (now (store .entry)) (now (sums .entry)) day period (now (y .entry))
         own (now (state .entry)) (now (value .entry)) ⌝ }
 {
     file_night(
         order,
         taps,
         capacity,
+        edition,
         days,
         slots,
         periods,
@@ -127,6 +132,7 @@ pub extern "C" fn meter_capture(
     order: u32,
     taps: u32,
     capacity: u32,
+    edition: u32,
     days: &mut [u8],
     slots: &mut [u16],
     periods: &mut [u8],
@@ -139,13 +145,14 @@ pub extern "C" fn meter_capture(
     value: &mut usize,
 ) -> u32
     ensures { λ r. ⌜ (r, now (days .exit), now (slots .exit), now (periods .exit), now (store .exit), now (sums .exit), now (state .exit), now (value .exit))
-        ≡ fileDoor order taps capacity (now (days .entry)) (now (slots .entry)) (now (periods .entry)) (now (store .entry)) (now (sums .entry)) day (capture m) (now (y .entry))
+        ≡ fileDoor order taps capacity edition (now (days .entry)) (now (slots .entry)) (now (periods .entry)) (now (store .entry)) (now (sums .entry)) day (capture m) (now (y .entry))
         own (now (state .entry)) (now (value .entry)) ⌝ }
 {
     file_night(
         order,
         taps,
         capacity,
+        edition,
         days,
         slots,
         periods,
@@ -165,6 +172,7 @@ pub extern "C" fn meter_file(
     order: u32,
     taps: u32,
     capacity: u32,
+    edition: u32,
     days: &mut [u8],
     slots: &mut [u16],
     periods: &mut [u8],
@@ -178,13 +186,14 @@ pub extern "C" fn meter_file(
     value: &mut usize,
 ) -> u32
     ensures { λ r. ⌜ (r, now (days .exit), now (slots .exit), now (periods .exit), now (store .exit), now (sums .exit), now (state .exit), now (value .exit))
-        ≡ fileDoor order taps capacity (now (days .entry)) (now (slots .entry)) (now (periods .entry)) (now (store .entry)) (now (sums .entry)) day period (now (y .entry))
+        ≡ fileDoor order taps capacity edition (now (days .entry)) (now (slots .entry)) (now (periods .entry)) (now (store .entry)) (now (sums .entry)) day period (now (y .entry))
         (handed (pairSays shown place)) (now (state .entry)) (now (value .entry)) ⌝ }
 {
     file_said(
         order,
         taps,
         capacity,
+        edition,
         days,
         slots,
         periods,
@@ -205,6 +214,7 @@ pub extern "C" fn meter_file_capture(
     order: u32,
     taps: u32,
     capacity: u32,
+    edition: u32,
     days: &mut [u8],
     slots: &mut [u16],
     periods: &mut [u8],
@@ -219,13 +229,14 @@ pub extern "C" fn meter_file_capture(
     value: &mut usize,
 ) -> u32
     ensures { λ r. ⌜ (r, now (days .exit), now (slots .exit), now (periods .exit), now (store .exit), now (sums .exit), now (state .exit), now (value .exit))
-        ≡ fileDoor order taps capacity (now (days .entry)) (now (slots .entry)) (now (periods .entry)) (now (store .entry)) (now (sums .entry)) day (capture m) (now (y .entry))
+        ≡ fileDoor order taps capacity edition (now (days .entry)) (now (slots .entry)) (now (periods .entry)) (now (store .entry)) (now (sums .entry)) day (capture m) (now (y .entry))
         (handed (pairSays shown place)) (now (state .entry)) (now (value .entry)) ⌝ }
 {
     file_said(
         order,
         taps,
         capacity,
+        edition,
         days,
         slots,
         periods,

@@ -43,17 +43,18 @@ fn copy_slots(from: &[u16], to: &mut [u16])
     }
 }
 
-// The record of three numbers and three tables.
+// The record of four numbers and three tables.
 pub fn read_record(
     order: u32,
     taps: u32,
     capacity: u32,
+    edition: u32,
     days: &[u8],
     slots: &[u16],
     periods: &[u8],
 ) -> Campaign
     requires { ⌜ (366 ≤ length (now days)) × (64 ≤ length (now slots)) × (64 ≤ length (now periods)) ⌝ }
-    ensures { λ r. ⌜ r ≡ recordOf order taps capacity (now (days .entry)) (now (slots .entry)) (now (periods .entry)) ⌝ }
+    ensures { λ r. ⌜ r ≡ recordOf order taps capacity edition (now (days .entry)) (now (slots .entry)) (now (periods .entry)) ⌝ }
 {
     let mut own_days = [UNSEEN; DAYS];
     let mut own_slots = [FREE; SLOTS];
@@ -65,6 +66,7 @@ pub fn read_record(
         order,
         taps,
         capacity,
+        edition,
         days: own_days,
         slots: own_slots,
         periods: own_periods,

@@ -10,7 +10,8 @@ use Rattle.meterlog.specs.declared.Failed.the-variants.{Nothing, Writing
 use Rattle.meterlog.specs.declared.Word.{Word}
 use Rattle.meterlog.specs.declared.Word.the-variants as word
 
--- the program stopped by itself, in this phase, with so many bytes read and not taken: after a refused start, at the end of the log, or at something bad
+-- the program stopped by itself, in this phase, with so many bytes read and not taken: after a refused start or edition, at the end of the log, or at something
+-- bad
 abbrev pub wordAt : Phase → ℕ → Word
 wordAt p left = cond (goesOn p) (cond (eqb left 0 && mayEnd p) word.Silence word.BadLog) word.RefusedStart
 

@@ -1,4 +1,4 @@
-// A word on standard error for a log that is bad and for a refused start, since the program has no exit status to tell them by.
+// A word on standard error for a log that is bad and for a refused start, which a refused edition is too, since the program has no exit status to tell them by.
 use crate::Failed;
 use crate::Progress;
 use crate::Word;

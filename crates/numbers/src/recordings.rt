@@ -4,6 +4,8 @@ use lines::print::number;
 use lines::print::signed;
 use lines::print::word;
 use register::Answer;
+use rounding::AWAY_FROM_ZERO;
+use rounding::TO_EVEN;
 use rounding::means::write_means;
 
 // What one recording answers at order 3, taps 3, with room enough.
@@ -45,24 +47,30 @@ pub fn sample_lines() {
     sample_line(-8388609);
 }
 
-fn mean_line(r: i64, d: u64, mean: i64) {
+fn mean_line(edition: u32, r: i64, d: u64, mean: i64) {
     word(b"mean");
+    number(edition as u64);
     signed(r);
     number(d);
     signed(mean);
     line_end();
 }
 
-// The means over 8, by the call that works out a response's means.
-pub fn mean_lines() {
+// The means over 8 in an edition, by the call that works out a response's means.
+fn edition_means(edition: u32) {
     let r = [4i64, -4, -10, 12, -12, 3, -3, 0];
     let mut means = [0i32; 8];
-    write_means(&r, &mut means, 8, 8);
+    write_means(edition, &r, &mut means, 8, 8);
     let mut k = 0;
     while k < 8 {
-        mean_line(r[k], 8, means[k] as i64);
+        mean_line(edition, r[k], 8, means[k] as i64);
         k += 1;
     }
+}
+
+pub fn mean_lines() {
+    edition_means(AWAY_FROM_ZERO);
+    edition_means(TO_EVEN);
 }
 
 pub fn refused_line() {

@@ -15,7 +15,7 @@ use Rattle.sums.proofs.Everywhere.{and-true, both-true, every-at, every-all, or
 use Rattle.register.specs.Register.{P, Accepted}
 use Rattle.register.specs.Calls.{tapsAnswer}
 use Rattle.register.proofs.Judged.{accepted-exactly}
-use Rattle.records.specs.Record.{standing, withdrawn, state, stands, slot, free, periods, sample, usedTotal, tapsHold, slotsHold, statesHold, pastFree, roomHolds, slotsStand, oneSlot, periodsHold, usedWithin, freeZero, sumsHold, together, apart}
+use Rattle.records.specs.Record.{standing, withdrawn, state, stands, slot, free, periods, sample, usedTotal, tapsHold, slotsHold, editionHolds, statesHold, pastFree, roomHolds, slotsStand, oneSlot, periodsHold, usedWithin, freeZero, sumsHold, together, apart}
 use Rattle.samples.specs.Samples.{within}
 use Rattle.sums.specs.Equal.{eqZ}
 use Rattle.records.specs.declared.Campaign.{Campaign}
@@ -36,6 +36,7 @@ pub record Filed (c : Campaign) : Type 0 where
 -- and with the lent memory
 pub record Together (c : Campaign) (store sums : List ℤ) : Type 0 where
   pub filed : Filed c
+  pub edition : editionHolds c ≡ true
   pub store-long : c .capacity * P (c .order) ≤ length store
   pub sums-long : P (c .order) ≤ length sums
   pub used : (s : ℕ) → s < c .capacity → (slot c s ≡ 0 → ⊥) → (j : ℕ) → j < P (c .order) → within (periods c s) (sample c store s j) ≡ true
@@ -80,7 +81,7 @@ module _ (c : Campaign) where
 module _ (c : Campaign) (store sums : List ℤ) where
   -- the tests one by one
   tests : together c store sums ≡ true
-      → (tapsHold c ≡ true) × (filedTests c ≡ true) × (roomHolds c store sums ≡ true) × (usedWithin c store ≡ true) × (freeZero c store ≡ true) × (sumsHold c store sums ≡ true)
+      → (tapsHold c ≡ true) × (filedTests c ≡ true) × (roomHolds c store sums ≡ true) × (usedWithin c store ≡ true) × (freeZero c store ≡ true) × (sumsHold c store sums ≡ true) × (editionHolds c ≡ true)
   unfolding together
   tests h =
       let k9 = and-true _ (sumsHold c store sums) h in
@@ -92,8 +93,9 @@ module _ (c : Campaign) (store sums : List ℤ) where
       let k4 = and-true _ (roomHolds c store sums) (k5 .0) in
       let k3 = and-true _ (pastFree c) (k4 .0) in
       let k2 = and-true _ (statesHold c) (k3 .0) in
-      let k1 = and-true (tapsHold c) (slotsHold c) (k2 .0) in
-      (k1 .0, both-true (both-true (both-true (both-true (both-true (k1 .1) (k2 .1)) (k3 .1)) (k5 .1)) (k6 .1)) (kp .1), k4 .1, k7 .1, k8 .1, k9 .1)
+      let ke = and-true _ (editionHolds c) (k2 .0) in
+      let k1 = and-true (tapsHold c) (slotsHold c) (ke .0) in
+      (k1 .0, both-true (both-true (both-true (both-true (both-true (k1 .1) (k2 .1)) (k3 .1)) (k5 .1)) (k6 .1)) (kp .1), k4 .1, k7 .1, k8 .1, k9 .1, ke .1)
 
   pub filed-tests : together c store sums ≡ true → filedTests c ≡ true
   filed-tests h = tests h .1
@@ -104,6 +106,7 @@ module _ (c : Campaign) (store sums : List ℤ) where
       let room = and-true (leb (c .capacity * P (c .order)) (length store)) (leb (P (c .order)) (length sums)) (k .2) in
       record {
         filed = filed-by c (k .0) (k .1);
+        edition = k .6;
         store-long = leb-true (c .capacity * P (c .order)) (length store) (room .0);
         sums-long = leb-true (P (c .order)) (length sums) (room .1);
         used = λ s l u j i. every-at (P (c .order)) _ (or-rest (free c s) _ (every-at (c .capacity) _ (k .3) s l) (ne-eqb (slot c s) 0 u)) j i;
@@ -127,8 +130,10 @@ module _ (c : Campaign) (store sums : List ℤ) where
       (both-true
       (both-true
       (both-true
+      (both-true
       (eq-eqb (tapsAnswer (c .order) (c .taps)) 0 (accepted-exactly (c .order) (c .taps) .1 (f .accepted)))
       (both-true (le-leb 1 (c .capacity) (f .least)) (le-leb (c .capacity) 64 (f .most))))
+      (t .edition))
       (every-all 366 _ (λ i l. le-leb (state c (i + 1)) withdrawn (f .states i l))))
       (every-all 64 _ (λ s l. past s l)))
       (both-true (le-leb (c .capacity * P (c .order)) (length store) (t .store-long)) (le-leb (P (c .order)) (length sums) (t .sums-long))))

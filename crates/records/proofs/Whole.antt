@@ -7,7 +7,7 @@ use native.Mathlib.Omega.{arith}
 use lib.IntN.{ℤ}
 use lib.ListN.{length}
 use Rattle.register.specs.Register.{P}
-use Rattle.records.specs.Record.{together}
+use Rattle.records.specs.Record.{editionHolds, together}
 use Rattle.records.specs.Blocks.{Block}
 use Rattle.records.specs.declared.Campaign.{Campaign}
 use Rattle.records.proofs.Holding.{Filed, Together, holds-together}
@@ -22,10 +22,11 @@ module _ (c : Campaign) (store sums : List ℤ) where
   abbrev pub AllPlaces : Type 0
   AllPlaces = Block (c .slots) (c .periods) (c .capacity) (P (c .order)) store sums 0 (P (c .order))
 
-  pub whole : Filed c → c .capacity * P (c .order) ≤ length store → P (c .order) ≤ length sums → AllPlaces → Together c store sums
-  whole f a b k =
+  pub whole : Filed c → editionHolds c ≡ true → c .capacity * P (c .order) ≤ length store → P (c .order) ≤ length sums → AllPlaces → Together c store sums
+  whole f e a b k =
       record {
         filed = f;
+        edition = e;
         store-long = a;
         sums-long = b;
         used = λ s l u j h. k .rows s l .used u j (omega arith) (omega arith);

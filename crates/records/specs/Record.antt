@@ -1,4 +1,4 @@
--- Document 01, "The campaign", and document 02, request 1: the record of a campaign, and when it holds together with the store and the sums that the caller lends.
+-- Document 01, "The campaign", and document 02, requests 1 and 9: the record of a campaign, and when it holds together with the store and the sums that the caller lends.
 -- Assumes nothing.
 use mathlib.Core.List.{List}
 use mathlib.Core.Bool.{Bool, cond, not, _&&_, _||_}
@@ -12,6 +12,7 @@ use Rattle.sums.specs.Equal.{eqZ}
 use Rattle.samples.specs.Samples.{within}
 use Rattle.register.specs.Register.{P}
 use Rattle.register.specs.Calls.{tapsAnswer}
+use Rattle.rounding.specs.Rounding.{isEdition}
 use Rattle.records.specs.declared.Campaign.{Campaign}
 
 -- ---- a day is unseen, standing, overloaded, dead or withdrawn
@@ -72,12 +73,30 @@ usedTotal c store j = sum (c .capacity) (λ s. cond (free c s) (pos 0) (sample c
 -- ---- the record anew, and refiled
 
 -- every day unseen, every slot free
-abbrev pub fresh : ℕ → ℕ → ℕ → Campaign
-fresh N taps C = record { order = N; taps = taps; capacity = C; days = replicate 366 unseen; slots = replicate 64 0; periods = replicate 64 0 }
+abbrev pub fresh : ℕ → ℕ → ℕ → ℕ → Campaign
+fresh N taps C E =
+    record {
+      order = N;
+      taps = taps;
+      capacity = C;
+      edition = E;
+      days = replicate 366 unseen;
+      slots = replicate 64 0;
+      periods = replicate 64 0;
+    }
 
 -- day d in the state q
 abbrev pub marked : Campaign → ℕ → ℕ → Campaign
-marked c d q = record { order = c .order; taps = c .taps; capacity = c .capacity; days = set (c .days) (d - 1) q; slots = c .slots; periods = c .periods }
+marked c d q =
+    record {
+      order = c .order;
+      taps = c .taps;
+      capacity = c .capacity;
+      edition = c .edition;
+      days = set (c .days) (d - 1) q;
+      slots = c .slots;
+      periods = c .periods;
+    }
 
 -- and slot s with the day t, of m periods
 abbrev pub filed : Campaign → ℕ → ℕ → ℕ → ℕ → ℕ → Campaign
@@ -86,6 +105,7 @@ filed c d q s t m =
       order = c .order;
       taps = c .taps;
       capacity = c .capacity;
+      edition = c .edition;
       days = set (c .days) (d - 1) q;
       slots = set (c .slots) s t;
       periods = set (c .periods) s m;
@@ -100,6 +120,10 @@ tapsHold c = eqb (tapsAnswer (c .order) (c .taps)) 0
 -- C is in range
 abbrev pub slotsHold : Campaign → Bool
 slotsHold c = leb 1 (c .capacity) && leb (c .capacity) 64
+
+-- the edition is 1 or 2
+abbrev pub editionHolds : Campaign → Bool
+editionHolds c = isEdition (c .edition)
 
 -- every day state is one of the five
 abbrev pub statesHold : Campaign → Bool
@@ -141,6 +165,7 @@ unfoldable pub together : Campaign → List ℤ → List ℤ → Bool
 together c store sums =
     tapsHold c
     && slotsHold c
+    && editionHolds c
     && statesHold c
     && pastFree c
     && roomHolds c store sums

@@ -10,8 +10,8 @@ ghost use Prim.Native.Nat.{_≤_, _<_};
 ghost use Rattle.records.specs.Record.{fresh, marked, filed};
 
 // Every day unseen, every slot free.
-pub fn blank(order: u32, taps: u32, capacity: u32) -> Campaign
-    ensures { λ r. ⌜ r ≡ fresh order taps capacity ⌝ }
+pub fn blank(order: u32, taps: u32, capacity: u32, edition: u32) -> Campaign
+    ensures { λ r. ⌜ r ≡ fresh order taps capacity edition ⌝ }
 {
     let days = [UNSEEN; DAYS];
     let slots = [FREE; SLOTS];
@@ -20,6 +20,7 @@ pub fn blank(order: u32, taps: u32, capacity: u32) -> Campaign
         order,
         taps,
         capacity,
+        edition,
         days,
         slots,
         periods,

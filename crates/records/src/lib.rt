@@ -31,11 +31,13 @@ pub const FREE: u16 = 0;
 
 pub const NO_PERIODS: u8 = 0;
 
-// `capacity` is how many slots it has; `days` holds each day's state, `slots` each slot's day, and `periods` how many periods that day's night had.
+// `capacity` is how many slots it has, and `edition` that of the report rules; `days` holds each day's state, `slots` each slot's day, and `periods` how
+// many periods that day's night had.
 pub struct Campaign {
     pub order: u32,
     pub taps: u32,
     pub capacity: u32,
+    pub edition: u32,
     pub days: [u8; DAYS],
     pub slots: [u16; SLOTS],
     pub periods: [u8; SLOTS],

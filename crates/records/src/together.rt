@@ -4,6 +4,7 @@ use crate::stored::store_holds;
 use crate::tables::filed_holds;
 use register::shift::full_period;
 use register::taps::taps_refusal;
+use rounding::editions::is_edition;
 ghost use mathlib.Core.Path.{_≡_};
 ghost use Rattle.records.specs.Record.{together};
 
@@ -14,6 +15,10 @@ pub fn holds(c: Campaign, store: &[i32], sums: &[i64]) -> bool
     let order = c.order;
     let taps = c.taps;
     if taps_refusal(order, taps) != 0 {
+        return false;
+    }
+    let edition = c.edition;
+    if !is_edition(edition) {
         return false;
     }
     if !filed_holds(c) {

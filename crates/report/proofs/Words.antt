@@ -1,4 +1,4 @@
--- Document 01, "Lines": a line of each kind, letter by letter as the paper spells it, so that a word misspelt in the specs and in the code alike
+-- Document 01, "Lines", and document 02, requests 6 and 9: a line of each kind, letter by letter as the papers spell it, so that a word misspelt in the specs and in the code alike
 -- is refused here. Assumes nothing.
 use mathlib.Core.Path.{_≡_, refl}
 use mathlib.Core.List.{[]}
@@ -22,6 +22,8 @@ pub record Spelt : Type 0 where
   pub started : lineBytes (line.Started (answer 0 7)) ≡ ascii "start 0\n"
   pub start-refused : lineBytes (line.Started (answer 9 0)) ≡ ascii "start 9\n"
   pub short : lineBytes (line.Started (answer 4 5)) ≡ ascii "start 4 5\n"
+  pub edition : lineBytes (line.Edition 0) ≡ ascii "edition 0\n"
+  pub edition-refused : lineBytes (line.Edition 24) ≡ ascii "edition 24\n"
   pub kept : lineBytes (line.Entered (record { day = 1; verdict = verdict.Kept 0 })) ≡ ascii "enter 1 0 kept\n"
   pub overloaded : lineBytes (line.Entered (record { day = 2; verdict = verdict.Overloaded 3 })) ≡ ascii "enter 2 0 overload\n"
   pub dead : lineBytes (line.Entered (record { day = 2; verdict = verdict.Dead })) ≡ ascii "enter 2 0 dead\n"
@@ -40,6 +42,8 @@ lines-spelt =
       started = refl;
       start-refused = refl;
       short = refl;
+      edition = refl;
+      edition-refused = refl;
       kept = refl;
       overloaded = refl;
       dead = refl;

@@ -1,4 +1,4 @@
--- Document 01, "The log program", "Lines": what is printed, byte by byte in ASCII. Assumes nothing.
+-- Document 01, "The log program", "Lines", and document 02, request 9: what is printed, byte by byte in ASCII. Assumes nothing.
 use mathlib.Core.Path.{_≡_}
 use mathlib.Core.List.{List, [], _∷_, _++_}
 use mathlib.Core.Bool.{cond}
@@ -50,6 +50,14 @@ answerText a = cond (eqb (a .number) 4) (spaced (a .number) ++ spaced (a .period
 abbrev pub startLine : Answer → List ℕ
 startLine a = ascii "start" ++ answerText a ++ lineEnd
 
+-- a word and a number
+abbrev pub oneLine : List ℕ → ℕ → List ℕ
+oneLine word n = word ++ spaced n ++ lineEnd
+
+-- `edition answer`
+abbrev pub editionLine : ℕ → List ℕ
+editionLine answer = oneLine (ascii "edition") answer
+
 -- kept, overload, dead, or - when refused
 abbrev pub verdictWord : Verdict → List ℕ
 verdictWord (verdict.Kept s) = ascii " kept"
@@ -74,6 +82,7 @@ responseLine answer t =
 abbrev pub lineBytes : Line → List ℕ
 lineBytes line.Silent = []
 lineBytes (line.Started a) = startLine a
+lineBytes (line.Edition answer) = editionLine answer
 lineBytes (line.Entered e) = enterLine e
 lineBytes (line.Withdrawn d answer) = withdrawLine d answer
 lineBytes (line.Answered answer t) = responseLine answer t
@@ -84,7 +93,7 @@ rowBytes k r mean = decimal k ++ ascii " " ++ decimalZ r ++ ascii " " ++ decimal
 
 -- `bad` and the byte offset
 abbrev pub badBytes : ℕ → List ℕ
-badBytes offset = ascii "bad" ++ spaced offset ++ lineEnd
+badBytes offset = oneLine (ascii "bad") offset
 
 -- ---- written to a buffer from a place on, up to the place that is answered
 

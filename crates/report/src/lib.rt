@@ -9,6 +9,8 @@ use trend::Tally;
 pub enum Line {
     Silent,
     Started(Answer),
+    // The answer.
+    Edition(u32),
     Entered(Entry),
     // The day and the answer.
     Withdrawn(u32, u32),

@@ -12,7 +12,7 @@ ghost use mathlib.Core.List.{List, [], _∷_, _++_};
 ghost use Prim.Native.Nat.{_+_, _≤_, _<_};
 ghost use lib.ListN.{length, take, drop};
 ghost use Rattle.campaign.specs.Calls.{verdictNumber};
-ghost use Rattle.report.specs.Lines.{decimal, decimalZ, spaced, answerText, verdictWord, startLine, enterLine, withdrawLine, responseLine};
+ghost use Rattle.report.specs.Lines.{decimal, decimalZ, spaced, answerText, verdictWord, oneLine, startLine, enterLine, withdrawLine, responseLine};
 ghost use Rattle.report.specs.Lines.{lineBytes, rowBytes, badBytes, Wrote};
 
 const SPACE: u8 = 32;
@@ -181,6 +181,16 @@ fn write_response(answer: u32, tally: Tally, out: &mut [u8]) -> usize
     put_byte(LINE_END, out, at)
 }
 
+// A word and a number.
+fn write_one(word: &[u8], n: u64, out: &mut [u8]) -> usize
+    requires { ⌜ (length (now word) ≤ 16) × (length (now out) ≡ 128) ⌝ }
+    ensures { λ r. ⌜ Wrote (oneLine (now (word .entry)) n) 0 (now (out .entry)) r (now (out .exit)) ⌝ }
+{
+    let mut at = put_word(word, out, 0);
+    at = put_spaced(n, out, at);
+    put_byte(LINE_END, out, at)
+}
+
 fn write_line(line: Line, out: &mut [u8]) -> usize
     requires { ⌜ length (now out) ≡ 128 ⌝ }
     ensures { λ r. ⌜ Wrote (lineBytes line) 0 (now (out .entry)) r (now (out .exit)) ⌝ }
@@ -188,6 +198,7 @@ fn write_line(line: Line, out: &mut [u8]) -> usize
     match line {
         Line::Silent => 0,
         Line::Started(answer) => write_start(answer, out),
+        Line::Edition(answer) => write_one(b"edition", answer as u64, out),
         Line::Entered(entry) => write_enter(entry, out),
         Line::Withdrawn(day, answer) => write_withdraw(day, answer, out),
         Line::Answered(answer, tally) => write_response(answer, tally, out),
@@ -204,16 +215,6 @@ fn write_row(k: u64, r: i64, mean: i64, out: &mut [u8]) -> usize
     at = put_signed(r, out, at);
     at = put_byte(SPACE, out, at);
     at = put_signed(mean, out, at);
-    put_byte(LINE_END, out, at)
-}
-
-// `bad` and the offset
-fn write_bad(offset: u64, out: &mut [u8]) -> usize
-    requires { ⌜ length (now out) ≡ 128 ⌝ }
-    ensures { λ r. ⌜ Wrote (badBytes offset) 0 (now (out .entry)) r (now (out .exit)) ⌝ }
-{
-    let mut at = put_word(b"bad", out, 0);
-    at = put_spaced(offset, out, at);
     put_byte(LINE_END, out, at)
 }
 
@@ -240,6 +241,6 @@ pub fn bad_text(offset: u64) -> Text
     ensures { λ r. ⌜ (take (r .length) (r .bytes) ≡ badBytes offset) × (r .length ≤ 128) ⌝ }
 {
     let mut bytes = [0u8; LINE_ROOM];
-    let length = write_bad(offset, &mut bytes);
+    let length = write_one(b"bad", offset, &mut bytes);
     Text { bytes, length }
 }

@@ -2,3 +2,5 @@
 pub mod Nearest
 mod Signs
 mod Reciprocal
+pub mod Halves
+mod Raised

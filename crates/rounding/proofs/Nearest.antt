@@ -1,11 +1,9 @@
 -- The nearest quotient of two natural numbers, from the quotient and the remainder. Assumes nothing.
 use mathlib.Core.Path.{_≡_, sym}
-use Prim.Native.Nat.{ℕ, suc, _+_, _-_, _*_, _/_, _%_, _≤_, _<_}
-use native.Mathlib.Nat.{mul-left-comm, mul-le-mul-left, add-mul, div-eq-of-lt-le, div-add-mod', mod-lt, div-mul-le-self, lt-mul-div-succ, mul-comm, lt-of-mul-lt-mul-right}
+use Prim.Native.Nat.{ℕ, _+_, _-_, _*_, _/_, _%_, _≤_, _<_}
+use native.Mathlib.Nat.{mul-left-comm, mul-le-mul-left, add-mul, div-eq-of-lt-le, div-add-mod', mod-lt, div-mul-le-self, lt-mul-div-succ, mul-comm}
 use native.Mathlib.Omega.{arith}
-use lib.IntN.{ℤ, pos, negsuc, natAbs}
-use Rattle.sums.proofs.Bound.{natAbs-neg}
-use Rattle.rounding.specs.Rounding.{nearest, rounded}
+use Rattle.rounding.specs.Rounding.{nearest}
 
 module _ (a d q m : ℕ) (e : q * d + m ≡ a) (l : m < d) where
   -- below the half
@@ -47,14 +45,3 @@ module _ (a d : ℕ) (p : 0 < d) where
     div-mul-le-self (2 * a + d) (2 * d),
     rw (mul-comm ((2 * a + d) / (2 * d) + 1) (2 * d)) (lt-mul-div-succ (2 * a + d) {b = 2 * d} (omega arith)),
   )
-
--- ---- rounding keeps a bound
-
-nearest-bound : (a d B : ℕ) → 0 < d → a ≤ B * d → nearest a d ≤ B
-nearest-bound a d B p h =
-    let below : nearest a d * (2 * d) < suc B * (2 * d) = omega (arith, near-nearest a d p .0) in
-    omega (arith, lt-of-mul-lt-mul-right (2 * d) below)
-
-pub rounded-bound : (z : ℤ) (d B : ℕ) → 0 < d → natAbs z ≤ B * d → natAbs (rounded z d) ≤ B
-rounded-bound (pos a) d B p h = nearest-bound a d B p h
-rounded-bound (negsuc a) d B p h = rw natAbs-neg (nearest-bound (suc a) d B p h)

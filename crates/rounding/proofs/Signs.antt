@@ -10,7 +10,7 @@ use mir.Syntax.{w64}
 use mir.Val.{SFits, toZ}
 use mir.ValLaws.{toZ-ofZ}
 use Rattle.sums.proofs.Bound.{natAbs-neg}
-use Rattle.rounding.specs.Rounding.{nearest, rounded}
+use Rattle.rounding.specs.Rounding.{nearestIn, rounded}
 use Rattle.rounding.specs.Halving.{withSign}
 
 -- a number of 64 bits below 2 ^ 63, read as a signed one
@@ -36,10 +36,10 @@ pub sign-positive : (z : ℤ) (n : ℕ) → ltZ z (pos 0) ≡ false → pos n �
 sign-positive (pos a) n e = refl
 sign-positive (negsuc a) n e = absurd (true≢false e)
 
-pub rounded-signed : (z : ℤ) (d : ℕ) → withSign z (nearest (natAbs z) d) ≡ rounded z d
-rounded-signed (pos a) d = refl
-rounded-signed (negsuc a) d = refl
+pub rounded-signed : (e : ℕ) (z : ℤ) (d : ℕ) → withSign z (nearestIn e (natAbs z) d) ≡ rounded e z d
+rounded-signed e (pos a) d = refl
+rounded-signed e (negsuc a) d = refl
 
-pub rounded-size : (z : ℤ) (d : ℕ) → natAbs (rounded z d) ≡ nearest (natAbs z) d
-rounded-size (pos a) d = refl
-rounded-size (negsuc a) d = natAbs-neg (pos (nearest (suc a) d))
+pub rounded-size : (e : ℕ) (z : ℤ) (d : ℕ) → natAbs (rounded e z d) ≡ nearestIn e (natAbs z) d
+rounded-size e (pos a) d = refl
+rounded-size e (negsuc a) d = natAbs-neg (pos (nearestIn e (suc a) d))

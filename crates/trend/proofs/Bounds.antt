@@ -14,7 +14,7 @@ use Rattle.register.proofs.Judged.{generator}
 use Rattle.register.proofs.Word.{small}
 use Rattle.samples.specs.Samples.{sampleOut}
 use Rattle.samples.proofs.Sizes.{size-inside}
-use Rattle.rounding.proofs.Nearest.{rounded-bound}
+use Rattle.rounding.proofs.Halves.{rounded-bound}
 use Rattle.response.proofs.Register.{response-bound}
 use Rattle.records.specs.Record.{unseen, standing, overloaded, dead, withdrawn, state, daysIn, periodsStanding}
 use Rattle.records.specs.declared.Campaign.{Campaign}
@@ -82,4 +82,4 @@ module _ (c : Campaign) (store sums : List ℤ) (h : Together c store sums) wher
   pub mean-fits : (daysIn c standing ≡ 0 → ⊥) → (k : ℕ) → sampleOut (meanAt c sums k) ≡ false
   mean-fits n k =
       size-inside (meanAt c sums k)
-      (rounded-bound (worked c sums k) (divisor c) 8388607 (divisor-some c (h .filed) n) (omega (arith, worked-bound k)))
+      (rounded-bound (c .edition) (worked c sums k) (divisor c) 8388607 (divisor-some c (h .filed) n) (omega (arith, worked-bound k)))

@@ -3,3 +3,4 @@ pub mod Bounds
 pub mod Leveling
 pub mod Enough
 pub mod Passing
+pub mod MeansAlone

@@ -1,5 +1,5 @@
 -- What a campaign says: counts, response and summary, each by one function from all that is handed in to all that is handed back: document 01,
--- "The campaign", "Refusal numbers", "Order of checks" and "Room", and document 02, requests 1 and 7. Assumes nothing.
+-- "The campaign", "Refusal numbers", "Order of checks" and "Room", and document 02, requests 1, 7 and 9. Assumes nothing.
 use mathlib.Core.List.{List, [], _∷_}
 use mathlib.Core.Bool.{Bool, cond, _||_}
 use Prim.Native.Nat.{ℕ, _+_, _*_}
@@ -52,7 +52,7 @@ responseChecks c store sums r mean room tags =
     ∷ (14, eqb (daysIn c standing) 0)
     ∷ []
 
--- r worked from the sums; r over (P+1)·n, n periods standing
+-- r worked from the sums; r over (P+1)·n, n periods standing, rounded by the record's edition
 abbrev pub worked : Campaign → List ℤ → ℕ → ℤ
 worked c sums = response (P (c .order)) (wave (c .order) (c .taps)) (at sums)
 
@@ -60,7 +60,7 @@ abbrev pub divisor : Campaign → ℕ
 divisor c = (P (c .order) + 1) * periodsStanding c
 
 abbrev pub meanAt : Campaign → List ℤ → ℕ → ℤ
-meanAt c sums k = rounded (worked c sums k) (divisor c)
+meanAt c sums k = rounded (c .edition) (worked c sums k) (divisor c)
 
 unfoldable pub responseOutcome : Campaign → List ℤ → List ℤ → List ℤ → List ℤ → List ℤ → List ℕ → ℕ × List ℤ × List ℤ × List ℤ × List ℕ
 responseOutcome c store sums r mean room tags =

@@ -63,9 +63,10 @@ pub fn response(
     }
     let order = c.order;
     let taps = c.taps;
+    let edition = c.edition;
     let period = full_period(order) as usize;
     let divisor = divisor_of(c);
     turn_sums(order, taps, sums, r, room, tags);
-    write_means(r, mean, period, divisor);
+    write_means(edition, r, mean, period, divisor);
     0
 }

@@ -17,6 +17,7 @@ use lines::print::number;
 use lines::print::word;
 use nights::Night;
 use records::Campaign;
+use rounding::AWAY_FROM_ZERO;
 use trend::Counts;
 use trend::Summary;
 use trend::answering::response;
@@ -59,6 +60,7 @@ pub fn start_line(
         order,
         taps,
         capacity,
+        AWAY_FROM_ZERO,
         &mut store[..samples],
         &mut sums[..wide],
     );

@@ -17,6 +17,7 @@ use crate::recordings::recorded;
 use crate::refusing::REFUSED_VISIT;
 use crate::refusing::be_refused;
 use records::filing::blank;
+use rounding::AWAY_FROM_ZERO;
 ghost use Prim.Native.Nat.{_≤_, _<_};
 ghost use Rattle.year.specs.Lent.{visits, Runs};
 
@@ -103,7 +104,7 @@ fn started(plan: Plan, store: &mut Store) -> Held {
     let taps = plan.taps;
     let capacity = plan.capacity;
     fill_store(store);
-    let held = filled(blank(order, taps, capacity));
+    let held = filled(blank(order, taps, capacity, AWAY_FROM_ZERO));
     start_line(held, store, order, taps, capacity, STORE, PLACES)
 }
 

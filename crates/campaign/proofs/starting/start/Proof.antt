@@ -22,38 +22,38 @@ use Rattle.campaign.proofs.Passing.{Begins, begins}
 use Rattle.campaign.proofs.starting.start.Statement.{statement}
 use Rattle.campaign.proofs.starting.start.Tie as tie
 
-module _ (c : Campaign) (N taps C : ℕ) (store sums : List ℤ) (n : ℕ) (e : n ≡ first (startChecks N taps C store sums)) where
+module _ (c : Campaign) (N taps C E : ℕ) (store sums : List ℤ) (n : ℕ) (e : n ≡ first (startChecks N taps C E store sums)) where
   seen : Reached N taps n
-  seen = rw e (reached N taps (startChecks N taps C store sums) refl)
+  seen = rw e (reached N taps (startChecks N taps C E store sums) refl)
 
   refused : {a : Answer} → a ≡ answerOf N taps n → (n ≡ 0 → ⊥)
-      → _≡_ {A = Started × List ℤ × List ℤ} (record { answer = a; campaign = c }, store, sums) (startOutcome c N taps C store sums)
+      → _≡_ {A = Started × List ℤ × List ℤ} (record { answer = a; campaign = c }, store, sums) (startOutcome c N taps C E store sums)
   unfolding startOutcome
-  refused w h = rw w (sym (refused-with _ _ (startChecks N taps C store sums) n e h))
+  refused w h = rw w (sym (refused-with _ _ (startChecks N taps C E store sums) n e h))
 
   accepted : {a : Answer} → a ≡ answerOf N taps n → n ≡ 0 → {r : Campaign} {s u : List ℤ}
-      → r ≡ fresh N taps C → s ≡ clearedWide (C * P N) store → u ≡ clearedWide (P N) sums
-      → _≡_ {A = Started × List ℤ × List ℤ} (record { answer = a; campaign = r }, s, u) (startOutcome c N taps C store sums)
+      → r ≡ fresh N taps C E → s ≡ clearedWide (C * P N) store → u ≡ clearedWide (P N) sums
+      → _≡_ {A = Started × List ℤ × List ℤ} (record { answer = a; campaign = r }, s, u) (startOutcome c N taps C E store sums)
   unfolding startOutcome
-  accepted w z p q t = rw (w ∙ ap (answerOf N taps) z, p, q, t) (sym (accepted-with _ _ (startChecks N taps C store sums) n e z))
+  accepted w z p q t = rw (w ∙ ap (answerOf N taps) z, p, q, t) (sym (accepted-with _ _ (startChecks N taps C E store sums) n e z))
 
 start-refusal-requires : tie.Need-start-refusal-requires
 start-refusal-requires c κs = search needs
 
 tell-requires : tie.Need-tell-requires
-tell-requires c κs = let a = c .before .args in seen (a .c) (a .order) (a .taps) (a .capacity) (a .store .now) (a .sums .now) _ (c .start-refusal .ensures)
+tell-requires c κs = let a = c .before .args in seen (a .c) (a .order) (a .taps) (a .capacity) (a .edition) (a .store .now) (a .sums .now) _ (c .start-refusal .ensures)
 
 returns : tie.Need-returns
 returns c =
     let b = c .before .before in
     let a = b .before .args in
-    refused (a .c) (a .order) (a .taps) (a .capacity) (a .store .now) (a .sums .now) _ (b .start-refusal .ensures) (c .before .tell .ensures) (c .if1 .taken)
+    refused (a .c) (a .order) (a .taps) (a .capacity) (a .edition) (a .store .now) (a .sums .now) _ (b .start-refusal .ensures) (c .before .tell .ensures) (c .if1 .taken)
 
 -- past the checks
-ready : (c : tie.Else1) → let a = c .before .before .before .args in Begins (a .order) (a .taps) (a .capacity) (a .store .now) (a .sums .now)
+ready : (c : tie.Else1) → let a = c .before .before .before .args in Begins (a .order) (a .taps) (a .capacity) (a .edition) (a .store .now) (a .sums .now)
 ready c =
     let a = c .before .before .before .args in
-    begins (a .order) (a .taps) (a .capacity) (a .store .now) (a .sums .now) (sym (c .before .before .start-refusal .ensures) ∙ c .if1 .left)
+    begins (a .order) (a .taps) (a .capacity) (a .edition) (a .store .now) (a .sums .now) (sym (c .before .before .start-refusal .ensures) ∙ c .if1 .left)
 
 full-period-requires : tie.Need-full-period-requires
 full-period-requires c κs = ready c .accepted .shaped .most
@@ -90,7 +90,7 @@ returns-2 c =
     let w = f .before .before in
     let a = w .before .before .args in
     let e = f .full-period .ensures in
-    accepted (a .c) (a .order) (a .taps) (a .capacity) (a .store .now) (a .sums .now) _ (w .before .start-refusal .ensures) (w .tell .ensures) (f .before .if1 .left)
+    accepted (a .c) (a .order) (a .taps) (a .capacity) (a .edition) (a .store .now) (a .sums .now) _ (w .before .start-refusal .ensures) (w .tell .ensures) (f .before .if1 .left)
     (c .blank .ensures)
     (c .before .before .before .before .before .clear-samples .ensures ∙ ap (λ n. clearedWide (a .capacity * n) (a .store .now)) e)
     (c .before .before .clear-wide .ensures ∙ ap (λ n. clearedWide n (a .sums .now)) e)

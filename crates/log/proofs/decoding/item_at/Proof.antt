@@ -30,6 +30,9 @@ pair-at-requires-4 c κs = omega (arith, rw (c .match .keys6) at (c .before .bef
 byte-at-requires-3 : tie.Need-byte-at-requires-3
 byte-at-requires-3 c κs = omega (arith, rw (c .before .match .keys6) at (c .before .before .before .pre))
 
+byte-at-requires-4 : tie.Need-byte-at-requires-4
+byte-at-requires-4 c κs = omega (arith, rw (c .match .keys7) at (c .before .before .pre))
+
 returns : tie.Need-returns
 returns c = rw (c .before .before .before .match .keys1, c .before .before .byte-at .ensures .0, c .before .pair-at .ensures .0, c .byte-at2 .ensures .0)
 
@@ -49,10 +52,13 @@ returns-6 : tie.Need-returns-6
 returns-6 c = rw (c .before .before .match .keys6, c .before .pair-at4 .ensures .0, c .byte-at3 .ensures .0)
 
 returns-7 : tie.Need-returns-7
-returns-7 c =
+returns-7 c = rw (c .before .match .keys7, c .byte-at4 .ensures .0)
+
+returns-8 : tie.Need-returns-8
+returns-8 c =
     let r = c .match .rest in
     let k = c .before .before .args .kind in
-    simp (ne-eqb k 1 (r .0 .0 .0 .0 .0 .1), ne-eqb k 2 (r .0 .0 .0 .0 .1), ne-eqb k 3 (r .0 .0 .0 .1), ne-eqb k 4 (r .0 .0 .1), ne-eqb k 5 (r .0 .1), ne-eqb k 7 (r .1))
+    simp (ne-eqb k 1 (r .0 .0 .0 .0 .0 .0 .1), ne-eqb k 2 (r .0 .0 .0 .0 .0 .1), ne-eqb k 3 (r .0 .0 .0 .0 .1), ne-eqb k 4 (r .0 .0 .0 .1), ne-eqb k 5 (r .0 .0 .1), ne-eqb k 7 (r .0 .1), ne-eqb k 8 (r .1))
 
 pub item-at-spec : {M : Type 1} → statement M
 item-at-spec =
@@ -66,10 +72,12 @@ item-at-spec =
     pair-at-requires-3
     pair-at-requires-4
     byte-at-requires-3
+    byte-at-requires-4
     returns
     returns-2
     returns-3
     returns-4
     returns-5
     returns-6
-    returns-7)
+    returns-7
+    returns-8)

@@ -7,7 +7,7 @@ use lib.IntN.{ℤ}
 use mir.Syntax.{w32}
 use mir.ValLaws.{toZ-ofZ}
 use Rattle.nights.specs.declared.Night.the-variants as night
-use Rattle.logbook.specs.Book.{said, beganOutcome, tookSample, closedOutcome, withdrewOutcome, askedOutcome}
+use Rattle.logbook.specs.Book.{said, beganOutcome, editionOutcome, tookSample, closedOutcome, withdrewOutcome, askedOutcome}
 use Rattle.logbook.specs.Book.{Memory, memory, filing, sampling, asking, applied}
 use Rattle.logbook.specs.declared.Applied.{Applied}
 use Rattle.logbook.specs.declared.Book.{Book}
@@ -54,15 +54,19 @@ module _ (b : Book) (m : Memory) {i : Item} where
   unfolding applied
   closed e = rw e
 
-  withdrew : {d : ℕ} → i ≡ item.Withdraw d → filing m (withdrewOutcome (b .phase) (b .campaign) d (m .store) (m .sums)) ≡ applied b i m
+  withdrew : {d : ℕ} → i ≡ item.Withdraw d → filing m (withdrewOutcome (b .campaign) d (m .store) (m .sums)) ≡ applied b i m
   unfolding applied
   withdrew e = rw e
 
   asked : i ≡ item.Ask → {x : Applied} {r mean room : List ℤ} {tags : List ℕ}
-      → (x, r, mean, room, tags) ≡ askedOutcome b (m .store) (m .sums) (m .r) (m .mean) (m .room) (m .tags)
+      → (x, r, mean, room, tags) ≡ askedOutcome (b .campaign) (m .store) (m .sums) (m .r) (m .mean) (m .room) (m .tags)
       → (x, memory (m .store) (m .sums) (m .recording) r mean room tags) ≡ applied b i m
   unfolding applied
   asked e o = rw e (ap (asking m) o)
+
+  restarted : {E : ℕ} → i ≡ item.Edition E → filing m (editionOutcome (b .campaign) E (m .store) (m .sums)) ≡ applied b i m
+  unfolding applied
+  restarted e = rw e
 
 enum-known-item : tie.Need-enum-known-item
 enum-known-item c = search needs
@@ -117,6 +121,12 @@ after-open-requires-2 c κs = search needs
 
 say-requires-3 : tie.Need-say-requires-3
 say-requires-3 c κs = search needs
+
+enum-known-item-6 : tie.Need-enum-known-item-6
+enum-known-item-6 c = search needs
+
+restart-requires : tie.Need-restart-requires
+restart-requires c κs = search needs
 
 same-length : tie.Need-same-length
 same-length c = search needs
@@ -208,6 +218,19 @@ returns-7 c =
     let s = t .before .before .before .before in
     captured (s .args .book) (lent s) (t .item5 .given .1) (c .say3 .ensures) (c .before .after-open2 .ensures)
 
+same-length-15 : tie.Need-same-length-15
+same-length-15 c = search needs
+
+same-length-16 : tie.Need-same-length-16
+same-length-16 c = search needs
+
+returns-8 : tie.Need-returns-8
+returns-8 c =
+    let e = c .before .before in
+    let t = e .before .before .before .before in
+    let s = t .before .before .before .before in
+    filed (lent s) (restarted (s .args .book) (lent s) (t .item6 .given .1)) (e .restart .ensures)
+
 pub apply-spec : {M : Type 1} → statement M
 apply-spec =
     tie.close
@@ -229,6 +252,8 @@ apply-spec =
     enum-known-item-5
     after-open-requires-2
     say-requires-3
+    enum-known-item-6
+    restart-requires
     same-length
     same-length-2
     returns
@@ -249,4 +274,7 @@ apply-spec =
     same-length-13
     same-length-14
     returns-6
-    returns-7)
+    returns-7
+    same-length-15
+    same-length-16
+    returns-8)

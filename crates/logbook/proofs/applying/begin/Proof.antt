@@ -9,6 +9,7 @@ use Rattle.sums.proofs.First.{refused-with, accepted-with}
 use Rattle.register.specs.Calls.{answerOf, Reached}
 use Rattle.register.specs.declared.Answer.{Answer}
 use Rattle.register.proofs.HowShort.{reached}
+use Rattle.rounding.specs.Rounding.{awayFromZero}
 use Rattle.records.specs.declared.Campaign.{Campaign}
 use Rattle.campaign.specs.Calls.{startOutcome}
 use Rattle.campaign.specs.declared.Started.{Started}
@@ -26,7 +27,7 @@ module _ (c : Campaign) (N taps C : ℕ) (store sums : List ℤ) (n : ℕ) (e : 
   unfolding beganOutcome
   refused w h q = rw (q, w) (sym (refused-with _ _ (logStartChecks N taps C) n e h))
 
-  accepted : n ≡ 0 → {x : Applied} {s : Started} {st su : List ℤ} → x ≡ startedBy s → (s, st, su) ≡ startOutcome c N taps C store sums
+  accepted : n ≡ 0 → {x : Applied} {s : Started} {st su : List ℤ} → x ≡ startedBy s → (s, st, su) ≡ startOutcome c N taps C awayFromZero store sums
       → (x, st, su) ≡ beganOutcome c N taps C store sums
   unfolding beganOutcome
   accepted z q o = rw q (ap (over startedBy) o ∙ sym (accepted-with _ _ (logStartChecks N taps C) n e z))

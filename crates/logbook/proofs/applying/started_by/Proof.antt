@@ -3,14 +3,14 @@ use borrow.Author.Needs.{needs}
 use Rattle.logbook.proofs.applying.started_by.Statement.{statement}
 use Rattle.logbook.proofs.applying.started_by.Tie as tie
 
-after-start-requires : tie.Need-after-start-requires
-after-start-requires c κs = search needs
+after-answer-requires : tie.Need-after-answer-requires
+after-answer-requires c κs = search needs
 
 say-requires : tie.Need-say-requires
 say-requires c κs = search needs
 
 returns : tie.Need-returns
-returns c = rw (c .say .ensures, c .before .after-start .ensures)
+returns c = rw (c .say .ensures, c .before .after-answer .ensures)
 
 pub started-by-spec : {M : Type 1} → statement M
-started-by-spec = tie.close (tie.spec after-start-requires say-requires returns)
+started-by-spec = tie.close (tie.spec after-answer-requires say-requires returns)

@@ -20,7 +20,7 @@ same-length-2 c = search needs
 returns : tie.Need-returns
 returns c =
     let a = c .before .before .before .before .before .before .args in
-    rw (c .withdrawn-by .ensures) (ap (over (withdrawnBy (a .phase) (a .day))) (c .before .before .before .withdraw .ensures))
+    rw (c .withdrawn-by .ensures) (ap (over (withdrawnBy (a .day))) (c .before .before .before .withdraw .ensures))
 
 pub withdraw-day-spec : {M : Type 1} → statement M
 withdraw-day-spec =

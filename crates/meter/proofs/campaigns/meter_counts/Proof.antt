@@ -15,14 +15,14 @@ use Rattle.meter.proofs.Opening.{shut, through, long}
 use Rattle.meter.proofs.campaigns.meter_counts.Statement.{statement}
 use Rattle.meter.proofs.campaigns.meter_counts.Tie as tie
 
-module _ (N taps C : ℕ) (days slots periods : List ℕ) (store sums : List ℤ) (was : Tally) where
-  refused : tablesShort days slots periods ≡ true → (15, was) ≡ countsDoor N taps C days slots periods store sums was
+module _ (N taps C E : ℕ) (days slots periods : List ℕ) (store sums : List ℤ) (was : Tally) where
+  refused : tablesShort days slots periods ≡ true → (15, was) ≡ countsDoor N taps C E days slots periods store sums was
   unfolding countsDoor
   refused h = shut days slots periods _ _ h
 
   opened : tablesShort days slots periods ≡ false → {c : Campaign} {k : Counts} {r : ℕ} {t : Tally}
-      → c ≡ recordOf N taps C days slots periods → k ≡ countsOutcome c store sums → (r, t) ≡ meant was (countsMeans k)
-      → (r, t) ≡ countsDoor N taps C days slots periods store sums was
+      → c ≡ recordOf N taps C E days slots periods → k ≡ countsOutcome c store sums → (r, t) ≡ meant was (countsMeans k)
+      → (r, t) ≡ countsDoor N taps C E days slots periods store sums was
   unfolding countsDoor
   opened h {k = k} e o f = through days slots periods _ (countedOut was) {o = k} h f (o ∙ ap (λ c. countsOutcome c store sums) e)
 
@@ -37,7 +37,7 @@ tables-short-requires c κs = search needs
 returns : tie.Need-returns
 returns c =
     let a = c .before .before .before .before .before .args in
-    refused (a .order) (a .taps) (a .capacity) (a .days .now) (a .slots .now) (a .periods .now) (a .store .now) (a .sums .now) (tally (c .before .before .before .before .before))
+    refused (a .order) (a .taps) (a .capacity) (a .edition) (a .days .now) (a .slots .now) (a .periods .now) (a .store .now) (a .sums .now) (tally (c .before .before .before .before .before))
     (sym (c .before .tables-short .ensures) ∙ c .if1 .taken)
 
 -- past the check
@@ -58,7 +58,7 @@ returns-2 c =
     let k = c .before .before .before .before .before .before in
     let i = k .before .before in
     let a = i .before .before .before .before .before .args in
-    opened (a .order) (a .taps) (a .capacity) (a .days .now) (a .slots .now) (a .periods .now) (a .store .now) (a .sums .now) (tally (i .before .before .before .before .before))
+    opened (a .order) (a .taps) (a .capacity) (a .edition) (a .days .now) (a .slots .now) (a .periods .now) (a .store .now) (a .sums .now) (tally (i .before .before .before .before .before))
     (wide i) (k .before .read-record .ensures) (k .counts .ensures) (c .write-counts .ensures)
 
 pub meter-counts-spec : {M : Type 1} → statement M

@@ -12,14 +12,14 @@ use Rattle.meter.proofs.Opening.{shut, through, long}
 use Rattle.meter.proofs.campaigns.meter_response.Statement.{statement}
 use Rattle.meter.proofs.campaigns.meter_response.Tie as tie
 
-module _ (N taps C : ℕ) (days slots periods : List ℕ) (store sums r mean room : List ℤ) (tags : List ℕ) where
-  refused : tablesShort days slots periods ≡ true → (15, r, mean, room, tags) ≡ responseDoor N taps C days slots periods store sums r mean room tags
+module _ (N taps C E : ℕ) (days slots periods : List ℕ) (store sums r mean room : List ℤ) (tags : List ℕ) where
+  refused : tablesShort days slots periods ≡ true → (15, r, mean, room, tags) ≡ responseDoor N taps C E days slots periods store sums r mean room tags
   unfolding responseDoor
   refused h = shut days slots periods _ _ h
 
   opened : tablesShort days slots periods ≡ false → {c : Campaign} {x : ℕ × List ℤ × List ℤ × List ℤ × List ℕ}
-      → c ≡ recordOf N taps C days slots periods → x ≡ responseOutcome c store sums r mean room tags
-      → x ≡ responseDoor N taps C days slots periods store sums r mean room tags
+      → c ≡ recordOf N taps C E days slots periods → x ≡ responseOutcome c store sums r mean room tags
+      → x ≡ responseDoor N taps C E days slots periods store sums r mean room tags
   unfolding responseDoor
   opened h k o = through days slots periods _ (λ x. x) h refl (o ∙ ap (λ c. responseOutcome c store sums r mean room tags) k)
 
@@ -29,7 +29,7 @@ tables-short-requires c κs = search needs
 returns : tie.Need-returns
 returns c =
     let a = c .before .before .before .before .before .before .args in
-    refused (a .order) (a .taps) (a .capacity) (a .days .now) (a .slots .now) (a .periods .now) (a .store .now) (a .sums .now) (a .r .now) (a .mean .now) (a .room .now) (a .tags .now)
+    refused (a .order) (a .taps) (a .capacity) (a .edition) (a .days .now) (a .slots .now) (a .periods .now) (a .store .now) (a .sums .now) (a .r .now) (a .mean .now) (a .room .now) (a .tags .now)
     (sym (c .before .tables-short .ensures) ∙ c .if1 .taken)
 
 -- past the check
@@ -60,7 +60,7 @@ returns-2 c =
     let k = x .before .before .before .before .before in
     let i = k .before in
     let a = i .before .before .before .before .before .before .args in
-    opened (a .order) (a .taps) (a .capacity) (a .days .now) (a .slots .now) (a .periods .now) (a .store .now) (a .sums .now) (a .r .now) (a .mean .now) (a .room .now) (a .tags .now)
+    opened (a .order) (a .taps) (a .capacity) (a .edition) (a .days .now) (a .slots .now) (a .periods .now) (a .store .now) (a .sums .now) (a .r .now) (a .mean .now) (a .room .now) (a .tags .now)
     (wide i) (k .read-record .ensures) (x .response .ensures)
 
 pub meter-response-spec : {M : Type 1} → statement M

@@ -21,20 +21,20 @@ use Rattle.meter.proofs.Starting.{startedOut, short-refused, short-some
 use Rattle.meter.proofs.campaigns.meter_start.Statement.{statement}
 use Rattle.meter.proofs.campaigns.meter_start.Tie as tie
 
-module _ (N taps C : ℕ) (days slots periods : List ℕ) (store sums : List ℤ) where
-  refused : {n : ℕ} → tablesShort days slots periods ≡ true → n ≡ first (startChecks N taps C [] []) → (n, days, slots, periods, store, sums) ≡ startDoor N taps C days slots periods store sums
+module _ (N taps C E : ℕ) (days slots periods : List ℕ) (store sums : List ℤ) where
+  refused : {n : ℕ} → tablesShort days slots periods ≡ true → n ≡ first (startChecks N taps C E [] []) → (n, days, slots, periods, store, sums) ≡ startDoor N taps C E days slots periods store sums
   unfolding startDoor
   refused {n} h e =
-      let q = e ∙ short-refused N taps C days slots periods store sums h in
-      sym (refused-with (λ n. (n, days, slots, periods, store, sums)) _ (startDoorChecks N taps C days slots periods store sums) n q (λ z. short-some N taps C days slots periods store sums h (sym q ∙ z)))
+      let q = e ∙ short-refused N taps C E days slots periods store sums h in
+      sym (refused-with (λ n. (n, days, slots, periods, store, sums)) _ (startDoorChecks N taps C E days slots periods store sums) n q (λ z. short-some N taps C E days slots periods store sums h (sym q ∙ z)))
 
   opened : tablesShort days slots periods ≡ false → {c : Campaign} {e : Started} {s u : List ℤ} {days′ slots′ periods′ : List ℕ}
-      → c ≡ recordOf N taps C days slots periods → (e, s, u) ≡ startOutcome c N taps C store sums
+      → c ≡ recordOf N taps C E days slots periods → (e, s, u) ≡ startOutcome c N taps C E store sums
       → (days′ ≡ put (e .campaign .days) days) × (slots′ ≡ put (e .campaign .slots) slots) × (periods′ ≡ put (e .campaign .periods) periods)
-      → ((e .answer .number, days′, slots′, periods′, s, u) ≡ startDoor N taps C days slots periods store sums) × (e .answer .period ≡ told N taps (e .answer .number) 0)
+      → ((e .answer .number, days′, slots′, periods′, s, u) ≡ startDoor N taps C E days slots periods store sums) × (e .answer .period ≡ told N taps (e .answer .number) 0)
   opened h {c = c} {e = e} {s = s} {u = u} k o (f, g, i) = (
-    rw (f, g, i) (ap (startedOut days slots periods) (o ∙ ap (λ c. startOutcome c N taps C store sums) k) ∙ sym (start-opened N taps C days slots periods store sums h)),
-    period-told N taps (ap (λ (o : Started × List ℤ × List ℤ). o .0 .answer) o ∙ start-tells c N taps C store sums),
+    rw (f, g, i) (ap (startedOut days slots periods) (o ∙ ap (λ c. startOutcome c N taps C E store sums) k) ∙ sym (start-opened N taps C E days slots periods store sums h)),
+    period-told N taps (ap (λ (o : Started × List ℤ × List ℤ). o .0 .answer) o ∙ start-tells c N taps C E store sums),
   )
 
 -- an outcome of the door with another number
@@ -50,7 +50,7 @@ start-refusal-requires c κs = search needs
 tell-requires : tie.Need-tell-requires
 tell-requires c κs =
     let a = c .before .before .before .before .before .before .args in
-    rw (c .start-refusal .ensures) (reached (a .order) (a .taps) (startChecks (a .order) (a .taps) (a .capacity) [] []) refl)
+    rw (c .start-refusal .ensures) (reached (a .order) (a .taps) (startChecks (a .order) (a .taps) (a .capacity) (a .edition) [] []) refl)
 
 write-answer-requires : tie.Need-write-answer-requires
 write-answer-requires c κs = search needs
@@ -62,7 +62,7 @@ returns c =
     let a = t .before .before .before .before .before .args in
     handed-on (a .order) (a .taps) (a .period .now) with refl
     (passed-on (a .order) (a .taps) with refl (w .tell .ensures)
-    (refused (a .order) (a .taps) (a .capacity) (a .days .now) (a .slots .now) (a .periods .now) (a .store .now) (a .sums .now)
+    (refused (a .order) (a .taps) (a .capacity) (a .edition) (a .days .now) (a .slots .now) (a .periods .now) (a .store .now) (a .sums .now)
     (sym (t .before .tables-short .ensures) ∙ t .if1 .taken) (w .before .start-refusal .ensures)))
     (c .write-answer .ensures)
 
@@ -105,7 +105,7 @@ returns-2 c =
     let i = k .before .before .before .before in
     let a = i .before .before .before .before .before .args in
     handed-on (a .order) (a .taps) (a .period .now) with refl
-    (opened (a .order) (a .taps) (a .capacity) (a .days .now) (a .slots .now) (a .periods .now) (a .store .now) (a .sums .now)
+    (opened (a .order) (a .taps) (a .capacity) (a .edition) (a .days .now) (a .slots .now) (a .periods .now) (a .store .now) (a .sums .now)
     (wide i) (k .read-record .ensures) (e .start .ensures) (w .write-record .ensures))
     (c .write-answer2 .ensures)
 

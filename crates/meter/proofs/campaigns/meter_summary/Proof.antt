@@ -15,15 +15,15 @@ use Rattle.meter.proofs.Opening.{shut, through, long}
 use Rattle.meter.proofs.campaigns.meter_summary.Statement.{statement}
 use Rattle.meter.proofs.campaigns.meter_summary.Tie as tie
 
-module _ (N taps C : ℕ) (days slots periods : List ℕ) (store sums room : List ℤ) (tags : List ℕ) (stood : ℕ) (was : Levels) where
-  refused : tablesShort days slots periods ≡ true → (15, room, tags, stood, was) ≡ summaryDoor N taps C days slots periods store sums room tags stood was
+module _ (N taps C E : ℕ) (days slots periods : List ℕ) (store sums room : List ℤ) (tags : List ℕ) (stood : ℕ) (was : Levels) where
+  refused : tablesShort days slots periods ≡ true → (15, room, tags, stood, was) ≡ summaryDoor N taps C E days slots periods store sums room tags stood was
   unfolding summaryDoor
   refused h = shut days slots periods _ _ h
 
   opened : tablesShort days slots periods ≡ false → {c : Campaign} {s : Summary} {room′ : List ℤ} {tags′ : List ℕ} {r n : ℕ} {l : Levels}
-      → c ≡ recordOf N taps C days slots periods → (s, room′, tags′) ≡ summaryOutcome c store sums room tags
+      → c ≡ recordOf N taps C E days slots periods → (s, room′, tags′) ≡ summaryOutcome c store sums room tags
       → (r, (n, l)) ≡ meant (stood, was) (summaryMeans s)
-      → (r, room′, tags′, n, l) ≡ summaryDoor N taps C days slots periods store sums room tags stood was
+      → (r, room′, tags′, n, l) ≡ summaryDoor N taps C E days slots periods store sums room tags stood was
   unfolding summaryDoor
   opened h {s = s} {room′ = room′} {tags′ = tags′} e o f =
       through days slots periods _ (summedOut stood was) {o = (s, room′, tags′)} h (ap (λ t. (t .0, room′, tags′, t .1 .0, t .1 .1)) f) (o ∙ ap (λ c. summaryOutcome c store sums room tags) e)
@@ -37,7 +37,7 @@ tables-short-requires c κs = search needs
 returns : tie.Need-returns
 returns c =
     let a = c .before .before .before .before .before .before .args in
-    refused (a .order) (a .taps) (a .capacity) (a .days .now) (a .slots .now) (a .periods .now) (a .store .now) (a .sums .now) (a .room .now) (a .tags .now) (a .stands .now) (levels (c .before .before .before .before .before .before))
+    refused (a .order) (a .taps) (a .capacity) (a .edition) (a .days .now) (a .slots .now) (a .periods .now) (a .store .now) (a .sums .now) (a .room .now) (a .tags .now) (a .stands .now) (levels (c .before .before .before .before .before .before))
     (sym (c .before .tables-short .ensures) ∙ c .if1 .taken)
 
 -- past the check
@@ -64,7 +64,7 @@ returns-2 c =
     let s = c .before .before .before .before .before .before .before .before in
     let i = s .before .before .before .before in
     let a = i .before .before .before .before .before .before .args in
-    opened (a .order) (a .taps) (a .capacity) (a .days .now) (a .slots .now) (a .periods .now) (a .store .now) (a .sums .now) (a .room .now) (a .tags .now) (a .stands .now) (levels (i .before .before .before .before .before .before))
+    opened (a .order) (a .taps) (a .capacity) (a .edition) (a .days .now) (a .slots .now) (a .periods .now) (a .store .now) (a .sums .now) (a .room .now) (a .tags .now) (a .stands .now) (levels (i .before .before .before .before .before .before))
     (wide i) (s .before .before .before .read-record .ensures) (s .summary .ensures) (c .write-summary .ensures)
 
 pub meter-summary-spec : {M : Type 1} → statement M

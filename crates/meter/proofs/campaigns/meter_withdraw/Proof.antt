@@ -14,15 +14,15 @@ use Rattle.meter.proofs.Opening.{shut, through, long}
 use Rattle.meter.proofs.campaigns.meter_withdraw.Statement.{statement}
 use Rattle.meter.proofs.campaigns.meter_withdraw.Tie as tie
 
-module _ (N taps C : ℕ) (days slots periods : List ℕ) (store sums : List ℤ) (d : ℕ) where
-  refused : tablesShort days slots periods ≡ true → (15, days, slots, periods, store, sums) ≡ withdrawDoor N taps C days slots periods store sums d
+module _ (N taps C E : ℕ) (days slots periods : List ℕ) (store sums : List ℤ) (d : ℕ) where
+  refused : tablesShort days slots periods ≡ true → (15, days, slots, periods, store, sums) ≡ withdrawDoor N taps C E days slots periods store sums d
   unfolding withdrawDoor
   refused h = shut days slots periods _ _ h
 
   opened : tablesShort days slots periods ≡ false → {c : Campaign} {e : Withdrawn} {s u : List ℤ} {days′ slots′ periods′ : List ℕ}
-      → c ≡ recordOf N taps C days slots periods → (e, s, u) ≡ withdrawOutcome c store sums d
+      → c ≡ recordOf N taps C E days slots periods → (e, s, u) ≡ withdrawOutcome c store sums d
       → (days′ ≡ put (e .campaign .days) days) × (slots′ ≡ put (e .campaign .slots) slots) × (periods′ ≡ put (e .campaign .periods) periods)
-      → (e .answer, days′, slots′, periods′, s, u) ≡ withdrawDoor N taps C days slots periods store sums d
+      → (e .answer, days′, slots′, periods′, s, u) ≡ withdrawDoor N taps C E days slots periods store sums d
   unfolding withdrawDoor
   opened h {e = e} {s = s} {u = u} k o (f, g, i) =
       through days slots periods _ (withdrawnOut days slots periods) {o = (e, s, u)} h (rw (f, g, i)) (o ∙ ap (λ c. withdrawOutcome c store sums d) k)
@@ -33,7 +33,7 @@ tables-short-requires c κs = search needs
 returns : tie.Need-returns
 returns c =
     let a = c .before .before .before .before .before .args in
-    refused (a .order) (a .taps) (a .capacity) (a .days .now) (a .slots .now) (a .periods .now) (a .store .now) (a .sums .now) (a .day)
+    refused (a .order) (a .taps) (a .capacity) (a .edition) (a .days .now) (a .slots .now) (a .periods .now) (a .store .now) (a .sums .now) (a .day)
     (sym (c .before .tables-short .ensures) ∙ c .if1 .taken)
 
 -- past the check
@@ -71,7 +71,7 @@ returns-2 c =
     let k = e .before .before .before in
     let i = k .before .before .before .before in
     let a = i .before .before .before .before .before .args in
-    opened (a .order) (a .taps) (a .capacity) (a .days .now) (a .slots .now) (a .periods .now) (a .store .now) (a .sums .now) (a .day)
+    opened (a .order) (a .taps) (a .capacity) (a .edition) (a .days .now) (a .slots .now) (a .periods .now) (a .store .now) (a .sums .now) (a .day)
     (wide i) (k .read-record .ensures) (e .withdraw .ensures) (w .write-record .ensures)
 
 pub meter-withdraw-spec : {M : Type 1} → statement M

@@ -17,17 +17,17 @@ use Rattle.meter.proofs.Opening.{shut, through, long}
 use Rattle.meter.proofs.filing.file_night.Statement.{statement}
 use Rattle.meter.proofs.filing.file_night.Tie as tie
 
-module _ (N taps C : ℕ) (days slots periods : List ℕ) (store sums : List ℤ) (d : ℕ) (night : Night) (y : List ℤ) (x : Shown) (state value : ℕ) where
+module _ (N taps C E : ℕ) (days slots periods : List ℕ) (store sums : List ℤ) (d : ℕ) (night : Night) (y : List ℤ) (x : Shown) (state value : ℕ) where
   refused : tablesShort days slots periods ≡ true
-      → (15, days, slots, periods, store, sums, state, value) ≡ fileDoor N taps C days slots periods store sums d night y x state value
+      → (15, days, slots, periods, store, sums, state, value) ≡ fileDoor N taps C E days slots periods store sums d night y x state value
   unfolding fileDoor
   refused h = shut days slots periods _ _ h
 
   opened : tablesShort days slots periods ≡ false → {c : Campaign} {e : Entered} {s u : List ℤ} {r q v : ℕ} {days′ slots′ periods′ : List ℕ}
-      → c ≡ recordOf N taps C days slots periods → (e, s, u) ≡ fileOutcome c store sums d night y (shownTo c night y x)
+      → c ≡ recordOf N taps C E days slots periods → (e, s, u) ≡ fileOutcome c store sums d night y (shownTo c night y x)
       → (days′ ≡ put (e .campaign .days) days) × (slots′ ≡ put (e .campaign .slots) slots) × (periods′ ≡ put (e .campaign .periods) periods)
       → (r, (q, v)) ≡ meant (state, value) (verdictMeans (e .entry .verdict))
-      → (r, days′, slots′, periods′, s, u, q, v) ≡ fileDoor N taps C days slots periods store sums d night y x state value
+      → (r, days′, slots′, periods′, s, u, q, v) ≡ fileDoor N taps C E days slots periods store sums d night y x state value
   unfolding fileDoor
   opened h {e = e} {s = s} {u = u} k o (f, g, i) a =
       through days slots periods _ (enteredOut days slots periods state value) {o = (e, s, u)} h (rw (f, g, i) (ap (λ t. (t .0, put (e .campaign .days) days, put (e .campaign .slots) slots, put (e .campaign .periods) periods, s, u, t .1 .0, t .1 .1)) a)) (o ∙ ap (λ c. fileOutcome c store sums d night y (shownTo c night y x)) k)
@@ -38,7 +38,7 @@ tables-short-requires c κs = search needs
 returns : tie.Need-returns
 returns c =
     let a = c .before .before .before .before .before .args in
-    refused (a .order) (a .taps) (a .capacity) (a .days .now) (a .slots .now) (a .periods .now) (a .store .now) (a .sums .now) (a .day) (a .night) (a .y .now) (a .shown) (a .state .now) (a .value .now)
+    refused (a .order) (a .taps) (a .capacity) (a .edition) (a .days .now) (a .slots .now) (a .periods .now) (a .store .now) (a .sums .now) (a .day) (a .night) (a .y .now) (a .shown) (a .state .now) (a .value .now)
     (sym (c .before .tables-short .ensures) ∙ c .if1 .taken)
 
 -- past the check
@@ -79,7 +79,7 @@ returns-2 c =
     let k = e .before .before .before in
     let i = k .before .before .before .before in
     let a = i .before .before .before .before .before .args in
-    opened (a .order) (a .taps) (a .capacity) (a .days .now) (a .slots .now) (a .periods .now) (a .store .now) (a .sums .now) (a .day) (a .night) (a .y .now) (a .shown) (a .state .now) (a .value .now)
+    opened (a .order) (a .taps) (a .capacity) (a .edition) (a .days .now) (a .slots .now) (a .periods .now) (a .store .now) (a .sums .now) (a .day) (a .night) (a .y .now) (a .shown) (a .state .now) (a .value .now)
     (wide i) (k .read-record .ensures) (e .file-shown .ensures) (w .write-record .ensures) (c .write-verdict .ensures)
 
 pub file-night-spec : {M : Type 1} → statement M

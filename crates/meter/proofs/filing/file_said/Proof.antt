@@ -33,7 +33,7 @@ returns c =
     let v = f .before .before .before in
     let a = v .before .before .before .before .before .before .before .before .before .args in
     f .file-night .ensures
-    ∙ ap (λ x. fileDoor (a .order) (a .taps) (a .capacity) (a .days .now) (a .slots .now) (a .periods .now) (a .store .now) (a .sums .now) (a .day) (a .night) (a .y .now) (handed x) (a .state .now) (a .value .now)) (v .verdict-said .ensures)
+    ∙ ap (λ x. fileDoor (a .order) (a .taps) (a .capacity) (a .edition) (a .days .now) (a .slots .now) (a .periods .now) (a .store .now) (a .sums .now) (a .day) (a .night) (a .y .now) (handed x) (a .state .now) (a .value .now)) (v .verdict-said .ensures)
 
 pub file-said-spec : {M : Type 1} → statement M
 file-said-spec =

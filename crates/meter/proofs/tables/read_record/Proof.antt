@@ -19,9 +19,9 @@ slots-front c = length-take-le 64 (c .args .slots .now) (c .pre .1)
 periods-front : (c : tie.Start) → length (take 64 (c .args .periods .now)) ≡ 64
 periods-front c = length-take-le 64 (c .args .periods .now) (c .pre .2)
 
-alike : {N taps C : ℕ} {d days s slots p periods : List ℕ} → d ≡ days → s ≡ slots → p ≡ periods
-    → _≡_ {A = Campaign} (record { order = N; taps = taps; capacity = C; days = d; slots = s; periods = p })
-    (record { order = N; taps = taps; capacity = C; days = days; slots = slots; periods = periods })
+alike : {N taps C E : ℕ} {d days s slots p periods : List ℕ} → d ≡ days → s ≡ slots → p ≡ periods
+    → _≡_ {A = Campaign} (record { order = N; taps = taps; capacity = C; edition = E; days = d; slots = s; periods = p })
+    (record { order = N; taps = taps; capacity = C; edition = E; days = days; slots = slots; periods = periods })
 alike p q r = rw (p, q, r)
 
 slice-aggregate-copy-bytes : tie.Need-slice-aggregate-copy-bytes

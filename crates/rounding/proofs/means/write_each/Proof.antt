@@ -14,10 +14,10 @@ use Rattle.rounding.proofs.means.write_each.Statement.{statement}
 use Rattle.rounding.proofs.means.write_each.Tie as tie
 
 abbrev Inv-loop : tie.InvT-loop
-Inv-loop r out₀ period divisor shift m k₀ out k = (k ≤ period) × Written k (λ i. rounded (at r i) divisor) out₀ out
+Inv-loop edition r out₀ period divisor shift m raised k₀ out k = (k ≤ period) × Written k (λ i. rounded edition (at r i) divisor) out₀ out
 
 abbrev μ-loop : tie.MeasureT-loop
-μ-loop r out₀ period divisor shift m k₀ out k = period - k
+μ-loop edition r out₀ period divisor shift m raised k₀ out k = period - k
 
 loop-holds : tie.Need-loop-holds Inv-loop μ-loop
 loop-holds c = (omega arith, written-none)
@@ -32,11 +32,12 @@ mean-as-requires : tie.Need-mean-as-requires Inv-loop μ-loop
 mean-as-requires c κs =
     let b = c .before .before .before in
     let k = c .before .before .loop .k in
-    (b .pre .0 .2, rw (read w64 (at (b .args .r .now) k) (c .mean-as-arg .given)) (b .pre .1 k (omega arith)), b .pre .0 .3)
+    let given = b .pre .0 in
+    ((given .2, rw (read w64 (at (b .args .r .now) k) (c .mean-as-arg .given)) (b .pre .1 .1 k (omega arith)), given .3), b .pre .1 .0)
 
 -- the mean is that of the number read, and a sample
 said : (c : tie.After-mean-as Inv-loop μ-loop) → let l = c .before .before .before in
-    c .mean-as .result ≡ rounded (at (l .before .args .r .now) (l .loop .k)) (l .before .args .divisor)
+    c .mean-as .result ≡ rounded (l .before .args .edition) (at (l .before .args .r .now) (l .loop .k)) (l .before .args .divisor)
 said c =
     let l = c .before .before .before in
     rw (read w64 (at (l .before .args .r .now) (l .loop .k)) (c .before .mean-as-arg .given)) at (c .mean-as .ensures)
@@ -44,13 +45,13 @@ said c =
 fits : (c : tie.After-mean-as Inv-loop μ-loop) → SFits w32 (c .mean-as .result)
 fits c =
     let l = c .before .before .before in
-    rw (said c) (sample-fits (rounded (at (l .before .args .r .now) (l .loop .k)) (l .before .args .divisor)) (l .before .pre .1 (l .loop .k) (omega arith)))
+    rw (said c) (sample-fits (rounded (l .before .args .edition) (at (l .before .args .r .now) (l .loop .k)) (l .before .args .divisor)) (l .before .pre .1 .1 (l .loop .k) (omega arith)))
 
 cast-out : tie.Need-cast-out Inv-loop μ-loop
 cast-out c = rw (read w64 (c .mean-as .result) (c .mean-as .ok)) (fits c)
 
-mul-t14 : tie.Need-mul-t14 Inv-loop μ-loop
-mul-t14 c = omega arith
+mul-t16 : tie.Need-mul-t16 Inv-loop μ-loop
+mul-t16 c = omega arith
 
 slice-set-from-out : tie.Need-slice-set-from-out Inv-loop μ-loop
 slice-set-from-out c = omega (arith, written-length (c .before .before .before .loop .inv .1) (omega arith))
@@ -84,7 +85,7 @@ write-each-spec =
     shared-slice-copy-out-mean-as
     mean-as-requires
     cast-out
-    mul-t14
+    mul-t16
     slice-set-from-out
     add-k
     loop-less

@@ -75,7 +75,7 @@ write-means-requires c κs =
     let d = c .before .before .before .before .before .before .before .before .before .before .divisor-of .ensures in (
       (omega (arith, p, t .turn-sums .kept .1 .1 .1 .0, r .r-long), omega (arith, p, r .mean-long), omega (arith, d, divisor-some (a .c) (r .whole .filed) (r .some))),
       λ k l.
-          ap₂ (λ z n. sampleOut (rounded z n)) (turned t k (omega (arith, p))) d ∙ mean-fits (a .c) (a .store .now) (a .sums .now) (r .whole) (r .some) k,
+          ap₂ (λ z n. sampleOut (rounded (a .c .edition) z n)) (turned t k (omega (arith, p))) d ∙ mean-fits (a .c) (a .store .now) (a .sums .now) (r .whole) (r .some) k,
     )
 
 same-length : tie.Need-same-length
@@ -90,7 +90,7 @@ same-length-3 c = search needs
 same-length-4 : tie.Need-same-length-4
 same-length-4 c = search needs
 
-mean-is : (c : tie.After-write-means) → let a = c .before .before .before .before .before .before .before .before .before .before .before .before .before .before .before .before .args in c .write-means .last .1 .0 ≡ put (table (P (a .c .order)) (meanAt (a .c) (a .sums .now))) (a .mean .now)
+mean-is : (c : tie.After-write-means) → let a = c .before .before .before .before .before .before .before .before .before .before .before .before .before .before .before .before .args in c .write-means .last .1 .1 .0 ≡ put (table (P (a .c .order)) (meanAt (a .c) (a .sums .now))) (a .mean .now)
 mean-is c =
     let t = c .before .before .before .before .before .before .before in
     let d = c .before .before .before .before .before .before .before .before .before .before .before .divisor-of in
@@ -98,8 +98,8 @@ mean-is c =
     let a = c .before .before .before .before .before .before .before .before .before .before .before .before .before .before .before .before .args in
     c .write-means .ensures
     ∙ ap (λ v. put v (a .mean .now))
-    (ap (λ m. table m (λ k. rounded (at (t .turn-sums .last .1 .1 .1 .0) k) (d .result))) (p .ensures)
-    ∙ table-ext (P (a .c .order)) (λ k l. ap₂ rounded (turned t k l) (d .ensures)))
+    (ap (λ m. table m (λ k. rounded (a .c .edition) (at (t .turn-sums .last .1 .1 .1 .0) k) (d .result))) (p .ensures)
+    ∙ table-ext (P (a .c .order)) (λ k l. ap₂ (rounded (a .c .edition)) (turned t k l) (d .ensures)))
 
 returns-2 : tie.Need-returns-2
 returns-2 c =

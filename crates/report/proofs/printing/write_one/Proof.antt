@@ -1,11 +1,8 @@
--- `report::printing::write_bad` meets its contract. Assumes nothing.
-use borrow.Author.Needs.{needs}
+-- `report::printing::write_one` meets its contract. Assumes nothing.
 use Rattle.report.proofs.Writing.{wrote-three}
-use Rattle.report.proofs.printing.write_bad.Statement.{statement}
-use Rattle.report.proofs.printing.write_bad.Tie as tie
-
-slice-aggregate-put-word : tie.Need-slice-aggregate-put-word
-slice-aggregate-put-word c = search needs
+use borrow.Author.Needs.{needs}
+use Rattle.report.proofs.printing.write_one.Statement.{statement}
+use Rattle.report.proofs.printing.write_one.Tie as tie
 
 put-word-requires : tie.Need-put-word-requires
 put-word-requires c κs = search needs
@@ -25,13 +22,7 @@ returns c =
     let n = e .before .before .before .before in
     wrote-three (n .before .before .before .before .put-word .ensures) (n .put-spaced .ensures .0) (e .put-byte .ensures)
 
-pub write-bad-spec : {M : Type 1} → statement M
-write-bad-spec =
+pub write-one-spec : {M : Type 1} → statement M
+write-one-spec =
     tie.close
-    (tie.spec
-    slice-aggregate-put-word
-    put-word-requires
-    put-spaced-requires
-    put-byte-requires
-    same-length
-    returns)
+    (tie.spec put-word-requires put-spaced-requires put-byte-requires same-length returns)
