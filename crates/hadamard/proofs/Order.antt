@@ -1,10 +1,11 @@
--- The transform is linear, so the levels may be done in the other order, the narrowest first. Assumes nothing.
-use mathlib.Core.Path.{_≡_, sym, ap, ap₂, _∙_}
+-- The transform is linear, so a level may be done after those of its halves, the narrowest first. Assumes nothing.
+use mathlib.Core.Path.{_≡_, sym, ap₂, ap, _∙_}
 use mathlib.Core.List.{List, _++_}
-use Prim.Native.Nat.{ℕ, zero, suc, _+_, _^_, _<_}
+use Prim.Native.Nat.{ℕ, suc, _+_, _^_, _<_}
 use native.Mathlib.Nat.{pow-suc}
 use native.Mathlib.Omega.{arith}
 use lib.ListN.{length, take, drop}
+use lib.Seq.{take-at, drop-at}
 use lib.IntN.{ℤ, _*ℤ_}
 use Rattle.sums.specs.Sum.{sum, sign}
 use Rattle.sums.specs.Lists.{at}
@@ -12,10 +13,10 @@ use Rattle.sums.proofs.Ring.{ring}
 use Rattle.sums.proofs.Sum.{sum-ext, sum-+, sum-sub}
 use Rattle.sums.proofs.Tables.{table-ext}
 use Rattle.hadamard.specs.Transform.{common, transformed}
-use Rattle.hadamard.specs.Butterflies.{add, sub, zip, folded}
+use Rattle.hadamard.specs.Butterflies.{add, sub, zip, folded, level, eachHalf}
 use Rattle.hadamard.proofs.Zip.{at-zip, zip-tables}
 use Rattle.hadamard.proofs.Folds.{length-first, length-second}
-use Rattle.hadamard.proofs.Spectrum.{spectrum, spectrum-one, spectrum-halves}
+use Rattle.hadamard.proofs.Spectrum.{spectrum, length-spectrum, spectrum-halves}
 
 -- f is a sum or a difference: the transform of f of two lists is f of their transforms
 module _ (f : ℤ → ℤ → ℤ) (of-products : (s x y : ℤ) → s *ℤ f x y ≡ f (s *ℤ x) (s *ℤ y))
@@ -31,37 +32,30 @@ module _ (f : ℤ → ℤ → ℤ) (of-products : (s x y : ℤ) → s *ℤ f x y
             ∙ of-products (sign (common n u w)) (at a w) (at b w))
             ∙ of-sums (2 ^ n) (λ w. sign (common n u w) *ℤ at a w) (λ w. sign (common n u w) *ℤ at b w)
 
--- the sums, and then the differences, of two lists
-abbrev pub crossed : List ℤ → List ℤ → List ℤ
-crossed p q = zip add p q ++ zip sub p q
-
--- the halves first, and then the sums and the differences of what has become of them
-unfoldable pub upward : ℕ → List ℤ → List ℤ
-upward zero v = v
-upward (suc n) v = crossed (upward n (take (2 ^ n) v)) (upward n (drop (2 ^ n) v))
-
 module _ (n : ℕ) (v : List ℤ) (len : length v ≡ 2 ^ suc n) where
   long : length v ≡ 2 ^ n + 2 ^ n
   long = omega (arith, pow-suc 2 n)
 
-  left : length (take (2 ^ n) v) ≡ 2 ^ n
-  left = length-first (2 ^ n) v long
+  abbrev front : List ℤ
+  front = take (2 ^ n) v
 
-  right : length (drop (2 ^ n) v) ≡ 2 ^ n
-  right = length-second (2 ^ n) v long
+  abbrev behind : List ℤ
+  behind = drop (2 ^ n) v
+
+  -- the transforms of the halves folded are those of the halves, folded
+  after : (f : ℤ → ℤ → ℤ) → spectrum n (zip f front behind) ≡ zip f (spectrum n front) (spectrum n behind)
+      → folded f (2 ^ n) (eachHalf n v) ≡ spectrum n (folded f (2 ^ n) v)
+  unfolding folded
+  after f e =
+      ap₂ (zip f)
+      (take-at (spectrum n front) (spectrum n behind) (2 ^ n) (length-spectrum n front))
+      (drop-at (spectrum n front) (spectrum n behind) (2 ^ n) (length-spectrum n front))
+      ∙ sym e
 
   -- one level done after the halves
-  pub halves-first : crossed (spectrum n (take (2 ^ n) v)) (spectrum n (drop (2 ^ n) v)) ≡ spectrum (suc n) v
-  unfolding folded
+  pub halves-first : level (2 ^ n) (eachHalf n v) ≡ spectrum (suc n) v
   halves-first =
       ap₂ _++_
-      (sym (linear add (λ s x y. simp ring) sum-+ n (take (2 ^ n) v) (drop (2 ^ n) v) left right))
-      (sym (linear sub (λ s x y. simp ring) sum-sub n (take (2 ^ n) v) (drop (2 ^ n) v) left right))
+      (after add (linear add (λ s x y. simp ring) sum-+ n front behind (length-first (2 ^ n) v long) (length-second (2 ^ n) v long)))
+      (after sub (linear sub (λ s x y. simp ring) sum-sub n front behind (length-first (2 ^ n) v long) (length-second (2 ^ n) v long)))
       ∙ sym (spectrum-halves n v long)
-
-pub same-order : (n : ℕ) (v : List ℤ) → length v ≡ 2 ^ n → upward n v ≡ spectrum n v
-unfolding upward
-same-order zero v len = sym (spectrum-one v len)
-same-order (suc n) v len =
-    ap₂ crossed (same-order n (take (2 ^ n) v) (left n v len)) (same-order n (drop (2 ^ n) v) (right n v len))
-    ∙ halves-first n v len

@@ -2,15 +2,13 @@
 use mathlib.Core.Path.{_≡_, sym, _∙_}
 use mathlib.Core.Logic.{_≢_}
 use mathlib.Core.List.{List}
-use Prim.Native.Nat.{ℕ, _+_, _^_, _<_}
+use Prim.Native.Nat.{ℕ, _+_, _<_}
 use native.Mathlib.Omega.{arith}
 use lib.ListN.{length, set, length-set}
 use lib.IntN.{ℤ, _+ℤ_, _-ℤ_}
 use Rattle.sums.specs.Lists.{at}
-use Rattle.hadamard.specs.Transform.{loudness}
-use Rattle.hadamard.specs.Butterflies.{add, sub, folded, level}
+use Rattle.hadamard.specs.Butterflies.{add, sub, folded, level, PairsFit}
 use Rattle.hadamard.proofs.Folds.{by-halves, length-folded, at-folded}
-use Rattle.hadamard.proofs.Loudness.{two-at-most}
 use Rattle.hadamard.proofs.Size.{Two}
 use Rattle.hadamard.proofs.Turns.{Turned, turned-none, turned-more, first-stored, second-stored, neither-stored}
 
@@ -37,8 +35,8 @@ module _ (v₀ : List ℤ) (half i : ℕ) (v : List ℤ) (lt : i < half) (p : Pa
   untouched j = p .kept j i (omega arith) lt
 
   -- the pair of this turn fits
-  pub paired-fit : loudness v₀ < 2 ^ 63 → Two (at v i) (at v (i + half))
-  paired-fit quiet = rw (untouched one, untouched two) (record { small = omega (arith, two-at-most half v₀ i lt) })
+  pub paired-fit : PairsFit half v₀ → Two (at v i) (at v (i + half))
+  paired-fit fit = rw (untouched one, untouched two) (record { small = fit i lt })
 
   pub paired-more : length v₀ ≡ half + half → (x y : ℤ) → x ≡ at v i +ℤ at v (i + half) → y ≡ at v i -ℤ at v (i + half)
       → Paired v₀ half (i + 1) (set (set v i x) (i + half) y)

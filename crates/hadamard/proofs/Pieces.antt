@@ -1,19 +1,21 @@
--- What `halves`, `transform` and the small transforms make of a list's pieces, which are lent one after the other. Assumes nothing.
+-- What `halves`, `transform` and the small transforms make of a list's halves, which are lent one after the other. Assumes nothing.
 use mathlib.Core.Path.{_≡_, refl, sym, ap, ap₂, _∙_}
 use mathlib.Core.List.{List, [], _++_, append-nil}
-use Prim.Native.Nat.{ℕ, suc, _+_, _-_, _^_, _<_}
-use native.Mathlib.Nat.{pow-suc, lt-of-le-of-lt}
+use Prim.Native.Nat.{ℕ, suc, _+_, _-_, _^_, _≤_, _<_}
+use native.Mathlib.Nat.{pow-suc}
 use native.Mathlib.Omega.{arith}
 use lib.ListN.{length, take, drop, length-append, length-drop, drop-of-length-le, take-append-drop}
 use lib.Seq.{take-all, take-at, drop-at}
-use lib.IntN.{ℤ}
+use lib.IntN.{ℤ, pos, natAbs}
 use borrow.Rule.Slice.PartMut.{putMid}
-use Rattle.sums.proofs.Bound.{natAbs-+, natAbs-sub}
-use Rattle.hadamard.specs.Transform.{loudness}
-use Rattle.hadamard.specs.Butterflies.{add, sub, folded, level, twoLevels}
-use Rattle.hadamard.proofs.Folds.{length-first, length-second, length-folded, length-level}
-use Rattle.hadamard.proofs.Loudness.{Bounded, loudness-folded}
-use Rattle.hadamard.proofs.Spectrum.{spectrum, length-spectrum, spectrum-one, spectrum-halves}
+use Rattle.sums.specs.Lists.{at}
+use Rattle.sums.proofs.Tables.{at-table}
+use Rattle.hadamard.specs.Transform.{transformed, loudness}
+use Rattle.hadamard.specs.Butterflies.{level, twoLevels, eachHalf, PairsFit, FoursFit}
+use Rattle.hadamard.proofs.Folds.{at-left, at-right, length-first, length-second}
+use Rattle.hadamard.proofs.Loudness.{loudness-parts, transformed-at-most}
+use Rattle.hadamard.proofs.Spectrum.{spectrum, length-spectrum, spectrum-one}
+use Rattle.hadamard.proofs.Order.{halves-first}
 
 -- ---- a list whose first half has become l
 
@@ -25,185 +27,187 @@ rest half w l = take (length (l ++ drop half w) - half) (drop half (l ++ drop ha
 abbrev joined : ℕ → List ℤ → List ℤ → List ℤ → List ℤ
 joined half w l r = putMid half (length (l ++ drop half w) - half) (l ++ drop half w) r
 
-module _ (half : ℕ) (w l : List ℤ) (lw : length w ≡ half + half) (ll : length l ≡ half) where
-  length-lent : length (l ++ drop half w) ≡ half + half
-  length-lent = length-append l (drop half w) ∙ omega (arith, length-drop half w)
-
-  rest-is : rest half w l ≡ drop half w
-  rest-is =
-      ap (λ x. take (length (l ++ drop half w) - half) x) (drop-at l (drop half w) half ll)
-      ∙ take-all (length (l ++ drop half w) - half) (drop half w) (omega (arith, length-lent, length-drop half w))
-
-  joined-is : (r : List ℤ) → joined half w l r ≡ l ++ r
-  joined-is r =
-      let none : drop (length (l ++ drop half w) - half) (drop half w) ≡ [] =
-      drop-of-length-le (drop half w) {i = length (l ++ drop half w) - half} (omega (arith, length-lent, length-drop half w)) in
-      rw (take-at l (drop half w) half ll, drop-at l (drop half w) half ll, none, append-nil)
-
--- ---- the transform of each half
-
--- what is given of a list whose halves are transformed
-pub record Pair (n half : ℕ) (w : List ℤ) : Type 0 where
-  pub is-half : half ≡ 2 ^ n
-  pub long : length w ≡ half + half
-  pub first : loudness (take half w) < 2 ^ 63
-  pub second : loudness (drop half w) < 2 ^ 63
-
-module _ {n half : ℕ} {w : List ℤ} (P : Pair n half w) where
-  pub halves-ask : (length w ≡ 2 ^ suc n) × (loudness (take (2 ^ n) w) < 2 ^ 63) × (loudness (drop (2 ^ n) w) < 2 ^ 63)
-  halves-ask = (omega (arith, P .long, P .is-half, pow-suc 2 n), rw (P .is-half) at (P .first), rw (P .is-half) at (P .second))
-
-  pub left-asks : (length (take half w) ≡ 2 ^ n) × (loudness (take half w) < 2 ^ 63)
-  left-asks = (length-first half w (P .long) ∙ P .is-half, P .first)
-
-  right-asked : (length (drop half w) ≡ 2 ^ n) × (loudness (drop half w) < 2 ^ 63)
-  right-asked = (length-second half w (P .long) ∙ P .is-half, P .second)
-
-  module _ {l : List ℤ} (el : l ≡ spectrum n (take half w)) where
+-- f is what becomes of each half
+module _ (f : List ℤ → List ℤ) (half : ℕ) (w : List ℤ) (lw : length w ≡ half + half) (keeps : (x : List ℤ) → length (f x) ≡ half)
+    {l : List ℤ} (el : l ≡ f (take half w))
+  where
     length-left : length l ≡ half
-    length-left = ap length el ∙ length-spectrum n (take half w) ∙ sym (P .is-half)
+    length-left = ap length el ∙ keeps (take half w)
 
-    pub length-pair : length (l ++ drop half w) ≡ half + half
-    length-pair = length-lent half w l (P .long) length-left
+    length-lent : length (l ++ drop half w) ≡ half + half
+    length-lent = length-append l (drop half w) ∙ omega (arith, length-drop half w, length-left)
 
-    pub right-asks : (length (rest half w l) ≡ 2 ^ n) × (loudness (rest half w l) < 2 ^ 63)
-    right-asks = rw (rest-is half w l (P .long) length-left) right-asked
+    rest-is : rest half w l ≡ drop half w
+    rest-is =
+        ap (λ x. take (length (l ++ drop half w) - half) x) (drop-at l (drop half w) half length-left)
+        ∙ take-all (length (l ++ drop half w) - half) (drop half w) (omega (arith, length-lent, length-drop half w))
 
-    pub pair-is : {r : List ℤ} → r ≡ spectrum n (rest half w l) → joined half w l r ≡ spectrum n (take (2 ^ n) w) ++ spectrum n (drop (2 ^ n) w)
-    pair-is {r} er = joined-is half w l (P .long) length-left r ∙ rw (el, er, rest-is half w l (P .long) length-left, P .is-half)
+    both-are : {r : List ℤ} → r ≡ f (rest half w l) → joined half w l r ≡ f (take half w) ++ f (drop half w)
+    both-are er =
+        let none : drop (length (l ++ drop half w) - half) (drop half w) ≡ [] =
+        drop-of-length-le (drop half w) {i = length (l ++ drop half w) - half} (omega (arith, length-lent, length-drop half w)) in
+        rw (take-at l (drop half w) half length-left, drop-at l (drop half w) half length-left, none, append-nil, er, rest-is, el)
 
--- ---- one level, and then each half
+-- ---- each half, and then one level
 
--- what is given of a list that is transformed by one level first
+-- what every transform asks
+abbrev Asked : ℕ → List ℤ → Type 0
+Asked n v = (length v ≡ 2 ^ n) × (loudness v < 2 ^ 63)
+
+-- a list of 2^n numbers whose halves have 2^m
 pub record Level (n m half : ℕ) (v : List ℤ) : Type 0 where
   pub order : n ≡ suc m
   pub is-half : half ≡ 2 ^ m
-  pub long : length v ≡ 2 ^ n
-  pub quiet : loudness v < 2 ^ 63
+  pub asked : Asked n v
+
+-- as the small transforms are given one
+pub of-order : (m : ℕ) {v : List ℤ} → Asked (suc m) v → Level (suc m) m (2 ^ m) v
+of-order m given = record { order = refl; is-half = refl; asked = given }
+
+length-both : (m : ℕ) (v : List ℤ) → length (eachHalf m v) ≡ 2 ^ m + 2 ^ m
+length-both m v =
+    length-append (spectrum m (take (2 ^ m) v)) (spectrum m (drop (2 ^ m) v))
+    ∙ ap₂ _+_ (length-spectrum m (take (2 ^ m) v)) (length-spectrum m (drop (2 ^ m) v))
+
+spectrum-at-most : (m : ℕ) (x : List ℤ) (k : ℕ) → length x ≡ 2 ^ m → k < 2 ^ m → natAbs (at (spectrum m x) k) ≤ loudness x
+spectrum-at-most m x k len h = rw (at-table (2 ^ m) (transformed m x) k (pos 0) h) (transformed-at-most m x k len)
 
 module _ {n m half : ℕ} {v : List ℤ} (L : Level n m half v) where
-  halved : length v ≡ half + half
-  halved = L .long ∙ ap (λ k. 2 ^ k) (L .order) ∙ omega (arith, pow-suc 2 m, L .is-half)
+  pub halved : length v ≡ half + half
+  halved = L .asked .0 ∙ ap (λ k. 2 ^ k) (L .order) ∙ omega (arith, pow-suc 2 m, L .is-half)
 
-  pub level-asks : (length v ≡ half + half) × (loudness v < 2 ^ 63)
-  level-asks = (halved, L .quiet)
+  pub left-asks : Asked m (take half v)
+  left-asks = (length-first half v halved ∙ L .is-half, omega (arith, loudness-parts half v, L .asked .1))
 
-  -- w is what the level leaves
-  module _ {w : List ℤ} (ew : w ≡ level half v) where
-    first-is : take half w ≡ folded add half v
-    first-is = ap (take half) ew ∙ take-at (folded add half v) (folded sub half v) half (length-folded add half v halved)
+  right-asked : Asked m (drop half v)
+  right-asked = (length-second half v halved ∙ L .is-half, omega (arith, loudness-parts half v, L .asked .1))
 
-    second-is : drop half w ≡ folded sub half v
-    second-is = ap (drop half) ew ∙ drop-at (folded add half v) (folded sub half v) half (length-folded add half v halved)
+  keeps : (x : List ℤ) → length (spectrum m x) ≡ half
+  keeps x = length-spectrum m x ∙ sym (L .is-half)
 
-    pub after : Pair m half w
-    after = record {
-      is-half = L .is-half;
-      long = ap length ew ∙ length-level half v halved;
-      first = rw first-is (lt-of-le-of-lt (loudness-folded add natAbs-+ half v) (L .quiet));
-      second = rw second-is (lt-of-le-of-lt (loudness-folded sub natAbs-sub half v) (L .quiet));
-    }
+  -- the transform of the first half is l
+  module _ {l : List ℤ} (el : l ≡ spectrum m (take half v)) where
+    pub length-halves : length (l ++ drop half v) ≡ half + half
+    length-halves = length-lent (spectrum m) half v halved keeps el
 
-    pub after-is : spectrum m (take (2 ^ m) w) ++ spectrum m (drop (2 ^ m) w) ≡ spectrum n v
-    after-is =
-        let e : length v ≡ 2 ^ m + 2 ^ m = halved ∙ omega (arith, L .is-half) in
-        rw (← L .is-half, first-is, second-is, L .is-half, L .order) (sym (spectrum-halves m v e))
+    pub right-asks : Asked m (rest half v l)
+    right-asks = rw (rest-is (spectrum m) half v halved keeps el) right-asked
 
--- a list of 2^(m + 1) numbers, as the small transforms are given one
-pub of-order : (m : ℕ) {v : List ℤ} → (length v ≡ 2 ^ suc m) × (loudness v < 2 ^ 63) → Level (suc m) m (2 ^ m) v
-of-order m given = record { order = refl; is-half = refl; long = given .0; quiet = given .1 }
+    pub halves-are : {r : List ℤ} → r ≡ spectrum m (rest half v l) → joined half v l r ≡ eachHalf m v
+    halves-are er = both-are (spectrum m) half v halved keeps el er ∙ rw (L .is-half)
 
--- a level leaves w, the transform of its first half is then l, and that of the rest r
-module _ {n m half : ℕ} {v w : List ℤ} (L : Level n m half v) (ew : w ≡ level half v) where
-  pub first-asks : (length (take half w) ≡ 2 ^ m) × (loudness (take half w) < 2 ^ 63)
-  first-asks = left-asks (after L ew)
+  -- w is what the transforms of both leave
+  module _ {w : List ℤ} (ew : w ≡ eachHalf m v) where
+    is-both : w ≡ spectrum m (take half v) ++ spectrum m (drop half v)
+    is-both = ew ∙ rw (L .is-half)
 
-  module _ {l : List ℤ} (el : l ≡ spectrum m (take half w)) where
-    pub second-asks : (length (rest half w l) ≡ 2 ^ m) × (loudness (rest half w l) < 2 ^ 63)
-    second-asks = right-asks (after L ew) el
+    long-both : length w ≡ half + half
+    long-both = ap length ew ∙ length-both m v ∙ rw (L .is-half)
 
-    pub whole-is : {r : List ℤ} → r ≡ spectrum m (rest half w l) → joined half w l r ≡ spectrum n v
-    whole-is er = pair-is (after L ew) el er ∙ after-is L ew
+    -- loudness is not kept, but the two numbers that meet come from two halves
+    pub meet-at-most : (k : ℕ) → k < half → natAbs (at w k) + natAbs (at w (k + half)) ≤ loudness v
+    meet-at-most k h =
+        let front = take half v in
+        let behind = drop half v in
+        rw (
+          is-both,
+          at-left (spectrum m front) (spectrum m behind) k (omega (arith, keeps front)),
+          at-right (spectrum m front) (spectrum m behind) half k (keeps front),
+        )
+        (omega (
+          arith,
+          spectrum-at-most m front k (left-asks .0) (omega (arith, L .is-half)),
+          spectrum-at-most m behind k (right-asked .0) (omega (arith, L .is-half)),
+          loudness-parts half v,
+        ))
 
--- of two numbers a level is the transform
-pub level-is : {v w : List ℤ} → Level 1 0 1 v → w ≡ level 1 v → w ≡ spectrum 1 v
-level-is {v} {w} L ew =
-    let P : Pair 0 1 w = after L ew in
-    sym (take-append-drop 1 w)
-    ∙ ap₂ _++_ (sym (spectrum-one (take 1 w) (left-asks P .0))) (sym (spectrum-one (drop 1 w) (right-asked P .0)))
-    ∙ after-is L ew
+    pub level-asks : (length w ≡ half + half) × PairsFit half w
+    level-asks = (long-both, λ k h. omega (arith, meet-at-most k h, L .asked .1))
 
--- ---- two levels, and then each quarter
+    pub level-is : {u : List ℤ} → u ≡ level half w → u ≡ spectrum n v
+    level-is eu =
+        eu ∙ ap₂ level (L .is-half) ew
+        ∙ halves-first m v (L .asked .0 ∙ ap (λ k. 2 ^ k) (L .order))
+        ∙ ap (λ k. spectrum k v) (sym (L .order))
 
+-- two numbers are the transforms of their halves
+pub alone : {v : List ℤ} → Asked 1 v → v ≡ eachHalf 0 v
+alone {v} given =
+    sym (take-append-drop 1 v)
+    ∙ ap₂ _++_ (sym (spectrum-one (take 1 v) (length-first 1 v (given .0)))) (sym (spectrum-one (drop 1 v) (length-second 1 v (given .0))))
+
+-- ---- each quarter, and then two levels
+
+-- a list of 2^n numbers whose quarters have 2^m
 pub record Deep (n m q half : ℕ) (v : List ℤ) : Type 0 where
   pub order : n ≡ suc (suc m)
   pub is-q : q ≡ 2 ^ m
   pub is-half : half ≡ q + q
-  pub long : length v ≡ 2 ^ n
-  pub quiet : loudness v < 2 ^ 63
+  pub asked : Asked n v
+
+pub of-order-deep : (m : ℕ) {v : List ℤ} → Asked (suc (suc m)) v → Deep (suc (suc m)) m (2 ^ m) (2 ^ m + 2 ^ m) v
+of-order-deep m given = record { order = refl; is-q = refl; is-half = refl; asked = given }
 
 module _ {n m q half : ℕ} {v : List ℤ} (D : Deep n m q half v) where
-  length-v : length v ≡ (q + q) + (q + q)
-  length-v = D .long ∙ ap (λ k. 2 ^ k) (D .order) ∙ omega (arith, pow-suc 2 (suc m), pow-suc 2 m, D .is-q)
+  pub whole : Level n (suc m) half v
+  whole = record { order = D .order; is-half = omega (arith, D .is-half, D .is-q, pow-suc 2 m); asked = D .asked }
 
-  pub quads-ask : (length v ≡ (q + q) + (q + q)) × (loudness v < 2 ^ 63)
-  quads-ask = (length-v, D .quiet)
+  front : Level (suc m) m q (take half v)
+  front = record { order = refl; is-half = D .is-q; asked = left-asks whole }
 
-  -- the second of the two levels
-  next : (f : ℤ → ℤ → ℤ) → Bounded f → Level (suc m) m q (folded f (q + q) v)
-  next f bound = record {
-    order = refl;
-    is-half = D .is-q;
-    long = length-folded f (q + q) v length-v ∙ omega (arith, pow-suc 2 m, D .is-q);
-    quiet = lt-of-le-of-lt (loudness-folded f bound (q + q) v) (D .quiet);
-  }
+  behind : Level (suc m) m q (drop half v)
+  behind = record { order = refl; is-half = D .is-q; asked = right-asked whole }
 
-  -- w is what both leave
-  module _ {w : List ℤ} (ew : w ≡ twoLevels q v) where
-    sums : Level (suc m) m q (folded add (q + q) v)
-    sums = next add natAbs-+
+  keeps-both : (x : List ℤ) → length (eachHalf m x) ≡ half
+  keeps-both x = length-both m x ∙ omega (arith, D .is-half, D .is-q)
 
-    differences : Level (suc m) m q (folded sub (q + q) v)
-    differences = next sub natAbs-sub
+  -- the transforms of the first two quarters are l
+  module _ {l : List ℤ} (el : l ≡ eachHalf m (take half v)) where
+    pub length-quarters : length (l ++ drop half v) ≡ half + half
+    length-quarters = length-lent (eachHalf m) half v (halved whole) keeps-both el
 
-    length-half : (f : ℤ → ℤ → ℤ) → length (level q (folded f (q + q) v)) ≡ half
-    length-half f = length-level q (folded f (q + q) v) (length-folded f (q + q) v length-v) ∙ sym (D .is-half)
+    pub rest-asks : Asked (suc m) (rest half v l)
+    rest-asks = rw (rest-is (eachHalf m) half v (halved whole) keeps-both el) (right-asked whole)
 
-    deep-first : take half w ≡ level q (folded add (q + q) v)
-    deep-first = ap (take half) ew ∙ take-at (level q (folded add (q + q) v)) (level q (folded sub (q + q) v)) half (length-half add)
+    pub quarters-are : {r : List ℤ} → r ≡ eachHalf m (rest half v l) → joined half v l r ≡ eachHalf m (take half v) ++ eachHalf m (drop half v)
+    quarters-are er = both-are (eachHalf m) half v (halved whole) keeps-both el er
 
-    deep-second : drop half w ≡ level q (folded sub (q + q) v)
-    deep-second = ap (drop half) ew ∙ drop-at (level q (folded add (q + q) v)) (level q (folded sub (q + q) v)) half (length-half add)
+  -- w is what the transforms of all four leave
+  module _ {w : List ℤ} (ew : w ≡ eachHalf m (take half v) ++ eachHalf m (drop half v)) where
+    abbrev left : List ℤ
+    left = eachHalf m (take half v)
 
-    pub length-deep : length w ≡ half + half
-    length-deep =
-        ap length ew
-        ∙ omega (arith, length-append (level q (folded add (q + q) v)) (level q (folded sub (q + q) v)), length-half add, length-half sub)
+    abbrev right : List ℤ
+    right = eachHalf m (drop half v)
 
-    pub first-pair : Pair m q (take half w)
-    first-pair = after sums deep-first
+    long-left : length left ≡ q + q
+    long-left = keeps-both (take half v) ∙ D .is-half
 
-    second-pair : Pair m q (drop half w)
-    second-pair = after differences deep-second
+    four-at-most : (k : ℕ) → k < q
+        → (natAbs (at (left ++ right) k) + natAbs (at (left ++ right) (k + q)))
+        + (natAbs (at (left ++ right) (k + (q + q))) + natAbs (at (left ++ right) (k + (q + q + q))))
+        ≤ loudness v
+    four-at-most k h =
+        let e : k + (q + q + q) ≡ k + q + (q + q) = omega arith in
+        rw (
+          e,
+          at-left left right k (omega (arith, long-left)),
+          at-left left right (k + q) (omega (arith, long-left)),
+          at-right left right (q + q) k long-left,
+          at-right left right (q + q) (k + q) long-left,
+        )
+        (omega (arith, meet-at-most front refl k h, meet-at-most behind refl k h, loudness-parts half v))
 
-    module _ {l : List ℤ} (el : l ≡ spectrum m (take (2 ^ m) (take half w)) ++ spectrum m (drop (2 ^ m) (take half w))) where
-      left-is : l ≡ spectrum (suc m) (folded add (q + q) v)
-      left-is = el ∙ after-is sums deep-first
+    long : length (left ++ right) ≡ (q + q) + (q + q)
+    long = length-append left right ∙ ap₂ _+_ long-left (keeps-both (drop half v) ∙ D .is-half)
 
-      length-l : length l ≡ half
-      length-l = ap length left-is ∙ length-spectrum (suc m) (folded add (q + q) v) ∙ omega (arith, pow-suc 2 m, D .is-q, D .is-half)
+    pub quads-ask : (length w ≡ (q + q) + (q + q)) × FoursFit q w
+    quads-ask = rw ew (long, λ k h. omega (arith, four-at-most k h, D .asked .1))
 
-      pub length-rejoined : length (l ++ drop half w) ≡ half + half
-      length-rejoined = length-lent half w l length-deep length-l
-
-      pub rest-pair : Pair m q (rest half w l)
-      rest-pair = rw (rest-is half w l length-deep length-l) second-pair
-
-      pub deep-is : {r : List ℤ} → r ≡ spectrum m (take (2 ^ m) (rest half w l)) ++ spectrum m (drop (2 ^ m) (rest half w l))
-          → joined half w l r ≡ spectrum n v
-      deep-is {r} er =
-          let right : r ≡ spectrum (suc m) (folded sub (q + q) v) = er ∙ after-is differences (rest-is half w l length-deep length-l ∙ deep-second) in
-          let e : q + q ≡ 2 ^ suc m = omega (arith, pow-suc 2 m, D .is-q) in
-          let e′ : length v ≡ 2 ^ suc m + 2 ^ suc m = length-v ∙ omega (arith, e) in
-          joined-is half w l length-deep length-l r
-          ∙ rw (left-is, right, e, D .order) (sym (spectrum-halves (suc m) v e′))
+    pub quads-are : {u : List ℤ} → u ≡ twoLevels q w → u ≡ spectrum n v
+    quads-are eu =
+        eu ∙ ap (twoLevels q) ew
+        ∙ ap₂ (λ a b. level (q + q) (level q a ++ level q b)) (take-at left right (q + q) long-left) (drop-at left right (q + q) long-left)
+        ∙ ap₂ (λ a b. level (q + q) (a ++ b)) (level-is front refl refl) (level-is behind refl refl)
+        ∙ ap (λ h. level h (spectrum (suc m) (take half v) ++ spectrum (suc m) (drop half v))) (sym (D .is-half))
+        ∙ level-is whole (rw (whole .is-half)) refl

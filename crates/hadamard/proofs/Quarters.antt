@@ -1,16 +1,15 @@
 -- The loop of `quads`: what it has made of a list after its first i turns, and at its end. Assumes nothing.
-use mathlib.Core.Path.{_≡_, sym, ap, _∙_}
+use mathlib.Core.Path.{_≡_, sym, ap, ap₂, _∙_}
 use mathlib.Core.Logic.{_≢_}
 use mathlib.Core.List.{List}
-use Prim.Native.Nat.{ℕ, _+_, _^_, _<_}
+use Prim.Native.Nat.{ℕ, _+_, _<_}
 use native.Mathlib.Omega.{arith}
-use lib.ListN.{length, set, length-set}
+use lib.ListN.{length, set, take, drop, length-set, length-append}
 use lib.IntN.{ℤ}
 use Rattle.sums.specs.Lists.{at}
-use Rattle.hadamard.specs.Transform.{loudness}
-use Rattle.hadamard.specs.Butterflies.{add, sub, folded, level, twoLevels}
-use Rattle.hadamard.proofs.Folds.{both-ranges, by-halves, length-folded, at-folded, length-level, at-sums, at-differences}
-use Rattle.hadamard.proofs.Loudness.{four-at-most}
+use Rattle.hadamard.specs.Butterflies.{add, sub, folded, level, halfLevels, twoLevels, FoursFit}
+use Rattle.hadamard.proofs.Folds.{at-left, at-right, both-ranges, by-halves, at-first, at-second, length-first, length-second}
+use Rattle.hadamard.proofs.Folds.{length-folded, at-folded, length-level, at-sums, at-differences}
 use Rattle.hadamard.proofs.Size.{Four}
 use Rattle.hadamard.proofs.Turns.{Turned, turned-none, turned-more, first-stored, second-stored, neither-stored}
 
@@ -25,10 +24,10 @@ place q four k = k + (q + q + q)
 
 -- what becomes of the numbers a, b, c, d of the four quarters
 abbrev of : Quarter → ℤ → ℤ → ℤ → ℤ → ℤ
-of one a b c d = add (add a c) (add b d)
-of two a b c d = sub (add a c) (add b d)
-of three a b c d = add (sub a c) (sub b d)
-of four a b c d = sub (sub a c) (sub b d)
+of one a b c d = add (add a b) (add c d)
+of two a b c d = add (sub a b) (sub c d)
+of three a b c d = sub (add a b) (add c d)
+of four a b c d = sub (sub a b) (sub c d)
 
 abbrev new : List ℤ → ℕ → Quarter → ℕ → ℤ
 new v q j k = of j (at v k) (at v (k + q)) (at v (k + (q + q))) (at v (k + (q + q + q)))
@@ -49,9 +48,8 @@ module _ (v₀ : List ℤ) (q i : ℕ) (v : List ℤ) (lt : i < q) (t : Quartere
   untouched j = t .kept j i (omega arith) lt
 
   -- the four of this turn fit
-  pub quartered-fit : loudness v₀ < 2 ^ 63 → Four (at v i) (at v (i + q)) (at v (i + (q + q))) (at v (i + (q + q + q)))
-  quartered-fit quiet =
-      rw (untouched one, untouched two, untouched three, untouched four) (record { small = omega (arith, four-at-most q v₀ i lt) })
+  pub quartered-fit : FoursFit q v₀ → Four (at v i) (at v (i + q)) (at v (i + (q + q))) (at v (i + (q + q + q)))
+  quartered-fit fit = rw (untouched one, untouched two, untouched three, untouched four) (record { small = fit i lt })
 
   pub quartered-more : length v₀ ≡ (q + q) + (q + q) → (x y z w : ℤ)
       → x ≡ new v q one i → y ≡ new v q two i → z ≡ new v q three i → w ≡ new v q four i
@@ -91,35 +89,62 @@ module _ (v₀ : List ℤ) (q i : ℕ) (v : List ℤ) (lt : i < q) (t : Quartere
       others four k h ne = elsewhere (k + (q + q + q)) (λ e. omega arith) (λ e. omega arith) (λ e. omega arith) (λ e. omega arith)
 
 module _ (v₀ : List ℤ) (q : ℕ) (len : length v₀ ≡ (q + q) + (q + q)) where
-  -- f of the halves, and g of two of its numbers that are q apart
-  apart : (f g : ℤ → ℤ → ℤ) (k : ℕ) → k < q
-      → g (f (at v₀ k) (at v₀ (k + (q + q)))) (f (at v₀ (k + q)) (at v₀ (k + (q + q + q))))
-      ≡ g (at (folded f (q + q) v₀) k) (at (folded f (q + q) v₀) (k + q))
-  apart f g k h =
-      let e : k + q + (q + q) ≡ k + (q + q + q) = omega arith in
-      rw (at-folded f (q + q) v₀ len k (omega arith), at-folded f (q + q) v₀ len (k + q) (omega arith), e)
+  abbrev front : List ℤ
+  front = take (q + q) v₀
+
+  abbrev behind : List ℤ
+  behind = drop (q + q) v₀
+
+  length-front : length front ≡ q + q
+  length-front = length-first (q + q) v₀ len
+
+  length-behind : length behind ≡ q + q
+  length-behind = length-second (q + q) v₀ len
+
+  length-levels : length (halfLevels q v₀) ≡ (q + q) + (q + q)
+  length-levels =
+      length-append (level q front) (level q behind) ∙ ap₂ _+_ (length-level q front length-front) (length-level q behind length-behind)
+
+  -- a level has g of two numbers that are q apart at `spot`, and f is of two such that meet in the next level
+  module _ (g : ℤ → ℤ → ℤ) (spot : ℕ → ℕ) (within : (k : ℕ) → k < q → spot k < q + q)
+      (is : (x : List ℤ) → length x ≡ q + q → (k : ℕ) → k < q → at (level q x) (spot k) ≡ g (at x k) (at x (k + q)))
+    where
+      meet : (f : ℤ → ℤ → ℤ) (k : ℕ) → k < q
+          → f (g (at v₀ k) (at v₀ (k + q))) (g (at v₀ (k + (q + q))) (at v₀ (k + (q + q + q)))) ≡ at (folded f (q + q) (halfLevels q v₀)) (spot k)
+      meet f k h =
+          let e : k + q + (q + q) ≡ k + (q + q + q) = omega arith in
+          sym (
+          at-folded f (q + q) (halfLevels q v₀) length-levels (spot k) (within k h)
+          ∙ ap₂ f
+          (at-left (level q front) (level q behind) (spot k) (omega (arith, within k h, length-level q front length-front)) ∙ is front length-front k h)
+          (at-right (level q front) (level q behind) (q + q) (spot k) (length-level q front length-front) ∙ is behind length-behind k h)
+          ∙ rw (
+            at-first (q + q) v₀ k (omega arith),
+            at-first (q + q) v₀ (k + q) (omega arith),
+            at-second (q + q) v₀ k,
+            at-second (q + q) v₀ (k + q),
+            e,
+          )
+          )
+
+  of-sums : (f : ℤ → ℤ → ℤ) (k : ℕ) → k < q
+      → f (add (at v₀ k) (at v₀ (k + q))) (add (at v₀ (k + (q + q))) (at v₀ (k + (q + q + q)))) ≡ at (folded f (q + q) (halfLevels q v₀)) k
+  of-sums = meet add (λ k. k) (λ k h. omega arith) (at-sums q)
+
+  of-differences : (f : ℤ → ℤ → ℤ) (k : ℕ) → k < q
+      → f (sub (at v₀ k) (at v₀ (k + q))) (sub (at v₀ (k + (q + q))) (at v₀ (k + (q + q + q)))) ≡ at (folded f (q + q) (halfLevels q v₀)) (k + q)
+  of-differences = meet sub (λ k. k + q) (λ k h. omega arith) (at-differences q)
 
   pub quartered-all : (v : List ℤ) → Quartered v₀ q q v → v ≡ twoLevels q v₀
   quartered-all v t =
-      by-halves v (level q S) (level q D) (q + q) (t .long ∙ len) (length-level q S lS) (length-level q D lD)
-      (both-ranges (λ k. at v k ≡ at (level q S) k) q
-      (λ k h. t .done one k h ∙ apart add add k h ∙ sym (at-sums q S lS k h))
-      (λ k h. t .done two k h ∙ apart add sub k h ∙ sym (at-differences q S lS k h)))
-      (both-ranges (λ k. at v (k + (q + q)) ≡ at (level q D) k) q
-      (λ k h. t .done three k h ∙ apart sub add k h ∙ sym (at-sums q D lD k h))
-      (λ k h. ap (at v) (last k) ∙ t .done four k h ∙ apart sub sub k h ∙ sym (at-differences q D lD k h)))
+      by-halves v (folded add (q + q) (halfLevels q v₀)) (folded sub (q + q) (halfLevels q v₀)) (q + q) (t .long ∙ len)
+      (length-folded add (q + q) (halfLevels q v₀) length-levels) (length-folded sub (q + q) (halfLevels q v₀) length-levels)
+      (both-ranges (λ k. at v k ≡ at (folded add (q + q) (halfLevels q v₀)) k) q
+      (λ k h. t .done one k h ∙ of-sums add k h)
+      (λ k h. t .done two k h ∙ of-differences add k h))
+      (both-ranges (λ k. at v (k + (q + q)) ≡ at (folded sub (q + q) (halfLevels q v₀)) k) q
+      (λ k h. t .done three k h ∙ of-sums sub k h)
+      (λ k h. ap (at v) (last k) ∙ t .done four k h ∙ of-differences sub k h))
     where
-      S : List ℤ
-      S = folded add (q + q) v₀
-
-      D : List ℤ
-      D = folded sub (q + q) v₀
-
-      lS : length S ≡ q + q
-      lS = length-folded add (q + q) v₀ len
-
-      lD : length D ≡ q + q
-      lD = length-folded sub (q + q) v₀ len
-
       last : (k : ℕ) → k + q + (q + q) ≡ k + (q + q + q)
       last k = omega arith

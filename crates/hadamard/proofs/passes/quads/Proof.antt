@@ -8,7 +8,7 @@ use Rattle.hadamard.proofs.Quarters.{Quartered, quartered-none, quarter
 use Rattle.sums.specs.Lists.{at}
 use Rattle.sums.proofs.Bound.{natAbs-+, natAbs-sub}
 use Rattle.hadamard.specs.Butterflies.{add, sub}
-use Rattle.hadamard.proofs.Size.{Four, outer, inner, two-fit, of-four, four-is}
+use Rattle.hadamard.proofs.Size.{Four, first-two, last-two, two-fit, of-four, four-is}
 use Rattle.hadamard.proofs.passes.quads.Statement.{statement}
 use Rattle.hadamard.proofs.passes.quads.Tie as tie
 
@@ -69,16 +69,16 @@ four : (c : tie.In-loop Inv-loop μ-loop)
 four c = quartered-fit _ _ _ _ (c .loop-test .taken) (c .before .loop .inv .1) (c .before .before .pre .1)
 
 add-p : tie.Need-add-p Inv-loop μ-loop
-add-p c = two-fit add natAbs-+ (outer (four (c .before .before .before .before)))
+add-p c = two-fit add natAbs-+ (first-two (four (c .before .before .before .before)))
 
 add-s : tie.Need-add-s Inv-loop μ-loop
-add-s c = two-fit add natAbs-+ (inner (four (c .before .before .before .before)))
+add-s c = two-fit add natAbs-+ (last-two (four (c .before .before .before .before)))
 
 sub-r : tie.Need-sub-r Inv-loop μ-loop
-sub-r c = two-fit sub natAbs-sub (outer (four (c .before .before .before .before)))
+sub-r c = two-fit sub natAbs-sub (first-two (four (c .before .before .before .before)))
 
 sub-t : tie.Need-sub-t Inv-loop μ-loop
-sub-t c = two-fit sub natAbs-sub (inner (four (c .before .before .before .before)))
+sub-t c = two-fit sub natAbs-sub (last-two (four (c .before .before .before .before)))
 
 add-v : tie.Need-add-v Inv-loop μ-loop
 add-v c = two-fit add natAbs-+ (of-four (four (c .before .before .before .before)) add natAbs-+)
@@ -93,7 +93,7 @@ sub-v : tie.Need-sub-v Inv-loop μ-loop
 sub-v c = two-fit sub natAbs-sub (of-four (four (c .before .before .before .before)) add natAbs-+)
 
 add-v-2 : tie.Need-add-v-2 Inv-loop μ-loop
-add-v-2 c = omega arith
+add-v-2 c = two-fit add natAbs-+ (of-four (four (c .before .before .before .before)) sub natAbs-sub)
 
 mul-v-2 : tie.Need-mul-v-2 Inv-loop μ-loop
 mul-v-2 c = omega arith
@@ -102,7 +102,7 @@ slice-set-from-v-2 : tie.Need-slice-set-from-v-2 Inv-loop μ-loop
 slice-set-from-v-2 c = simp length-set (omega arith)
 
 add-v-3 : tie.Need-add-v-3 Inv-loop μ-loop
-add-v-3 c = two-fit add natAbs-+ (of-four (four (c .before .before .before .before)) sub natAbs-sub)
+add-v-3 c = omega arith
 
 add-v-4 : tie.Need-add-v-4 Inv-loop μ-loop
 add-v-4 c = omega arith
@@ -137,8 +137,8 @@ loop-again c =
     let f = four turn in (
       omega arith,
       quartered-more _ _ _ _ (turn .loop-test .taken) (turn .before .loop .inv .1) (turn .before .before .pre .0) _ _ _ _
-          (four-is f add natAbs-+ add natAbs-+) (four-is f add natAbs-+ sub natAbs-sub)
-          (four-is f sub natAbs-sub add natAbs-+) (four-is f sub natAbs-sub sub natAbs-sub),
+          (four-is f add natAbs-+ add natAbs-+) (four-is f sub natAbs-sub add natAbs-+)
+          (four-is f add natAbs-+ sub natAbs-sub) (four-is f sub natAbs-sub sub natAbs-sub),
     )
 
 same-length : tie.Need-same-length Inv-loop μ-loop
@@ -176,11 +176,11 @@ quads-spec =
     add-v
     mul-v
     slice-set-from-v
-    sub-v
     add-v-2
+    add-v-3
     mul-v-2
     slice-set-from-v-2
-    add-v-3
+    sub-v
     add-v-4
     mul-v-3
     slice-set-from-v-3

@@ -1,25 +1,25 @@
--- `eight` meets its contract: the sums and the differences, and then each half by `four`. Assumes nothing.
+-- `eight` meets its contract: each quarter by `twos`, and then two levels. Assumes nothing.
 use mathlib.Core.Path.{sym}
 use borrow.Author.Needs.{needs}
-use Rattle.hadamard.proofs.Pieces.{Level, of-order, level-asks, first-asks, second-asks, whole-is}
+use Rattle.hadamard.proofs.Pieces.{Deep, of-order-deep, whole, left-asks, rest-asks, quarters-are, quads-ask, quads-are}
 use Rattle.hadamard.proofs.small.eight.Statement.{statement}
 use Rattle.hadamard.proofs.small.eight.Tie as tie
 
-level : (c : tie.Start) → Level 3 2 4 (c .args .v .now)
-level c = of-order 2 (c .pre)
+levels : (c : tie.Start) → Deep 3 1 2 4 (c .args .v .now)
+levels c = of-order-deep 1 (c .pre)
 
--- in the code's order: what `butterflies` asks, the first half as it is lent, what `four` asks of it, the same of the rest, and what is left
+-- in the code's order: the first half as it is lent, what `twos` asks of it, the same of the rest, what `quads` asks, and what is left
 pub eight-spec : {M : Type 1} → statement M
 eight-spec = tie.close (tie.spec
-    (λ c κs. level-asks (level (c .before)))
     (λ c. search needs)
-    (λ c. let b = c .before .before in sym (first-asks (level (b .before .before)) (b .butterflies .ensures) .0))
-    (λ c κs. let b = c .before .before in first-asks (level (b .before .before)) (b .butterflies .ensures))
-    (λ c. search needs)
+    (λ c. sym (left-asks (whole (levels (c .before))) .0))
+    (λ c κs. left-asks (whole (levels (c .before))))
     (λ c. search needs)
     (λ c. search needs)
-    (λ c κs. let l = c .before .before in let b = l .before .before .before in
-    second-asks (level (b .before .before)) (b .butterflies .ensures) (l .four .ensures))
     (λ c. search needs)
-    (λ c. let l = c .before .before .before .before in let b = l .before .before .before in
-    whole-is (level (b .before .before)) (b .butterflies .ensures) (l .four .ensures) (c .before .four2 .ensures)))
+    (λ c κs. let l = c .before .before in rest-asks (levels (l .before .before)) (l .twos .ensures))
+    (λ c κs. let r = c .before .before in let l = r .before .before .before in let D = levels (l .before .before) in
+    quads-ask D (quarters-are D (l .twos .ensures) (r .twos2 .ensures)))
+    (λ c. search needs)
+    (λ c. let b = c .before in let r = b .before .before .before in let l = r .before .before .before in let D = levels (l .before .before) in
+    quads-are D (quarters-are D (l .twos .ensures) (r .twos2 .ensures)) (b .quads .ensures)))
