@@ -18,6 +18,7 @@ pub mod entering;
 pub mod feeding;
 pub mod holding;
 pub mod judging;
+pub mod late;
 pub mod log;
 pub mod make;
 pub mod met;

@@ -1,6 +1,7 @@
 //! The numbers two programs can be held to, by direct formulas.
 
 use crate::edition::{mean, Edition, FIRST, SECOND};
+use crate::late;
 use crate::refusal::{number, told_period, Refusal};
 use crate::register::{check_taps, default_taps, period};
 use crate::response::{one_recording, predict, HIGHEST, LOWEST};
@@ -54,7 +55,8 @@ pub fn print(out: &mut impl Write) -> io::Result<()> {
     }
     loud(out, "lowest", vec![LOWEST; period(16)])?;
     let rails = (0..period(16)).map(|j| if j % 2 == 0 { LOWEST } else { HIGHEST });
-    loud(out, "rails", rails.collect())
+    loud(out, "rails", rails.collect())?;
+    late::print(out)
 }
 
 /// The number of the taps check, and the period told with it, 0 where there is none.

@@ -2,3 +2,4 @@
 pub mod Passing
 pub mod EntryCases
 pub mod Handed
+pub mod Late

@@ -18,6 +18,7 @@ use native.Mathlib.Omega.{arith}
 use borrow.Author.Tests.{eqb-true, eq-eqb, ne-eqb}
 use lib.Dec.{T, eqb, ltb}
 use lib.Count.{ones}
+use lib.Ieee.{neg}
 use lib.IntN.{ℤ, pos, negsuc, negℤ, natAbs, _-ℤ_, _*ℤ_}
 use lib.ListN.{length, getD, drop, replicate}
 use lib.Signed.{leZ}
@@ -26,6 +27,8 @@ use Rattle.sums.proofs.Everywhere.{or-rest}
 use Rattle.sums.proofs.Largest.{Near, spread-exactly}
 use Rattle.sums.specs.Lists.{at, table, put, putAt, seek, some, every, many}
 use Rattle.sums.specs.Refusals.{first, numbers, outcome}
+use Rattle.sums.specs.Turned.{late}
+use Rattle.sums.proofs.Turned.{late-place}
 use Rattle.register.specs.Register.{P, dot, step, window, bit, wave, Maximal}
 use Rattle.register.specs.Register as register
 use Rattle.register.proofs.OddTaps.{accepted-maximal}
@@ -45,6 +48,7 @@ use Rattle.samples.specs.Samples.{lengthOff, sampleOut, someOut, within}
 use Rattle.response.specs.Response as formula
 use Rattle.response.specs.Calls.{givenChecks, recordingChecks, recordingOutcome}
 use Rattle.response.proofs.Enough as of-recording
+use Rattle.response.proofs.Late.{refused-late, accepted-late, output-late}
 use Rattle.prediction.specs.Calls.{predictionChecks, predictionOutcome, roomedChecks, roomedOutcome}
 use Rattle.rounding.specs.Rounding.{awayFromZero, toEven, isEdition, halfway, nearest, nearestIn, rounded}
 use Rattle.rounding.proofs.Halves as halves
@@ -64,6 +68,7 @@ use Rattle.judging.specs.Judging.{foundIn, judgeChecks, judgedOf, judgeOutcome,
 use Rattle.judging.specs.declared.Judged.{Judged}
 use Rattle.judging.specs.declared.Judged.the-variants as judged
 use Rattle.judging.specs.declared.Judgement.{Judgement}
+use Rattle.judging.proofs.Late.{kept-late}
 use Rattle.judging.proofs.Judgements.{finding-accepts, judge-first, judge-told, judged-exactly}
 use Rattle.campaign.specs.Calls.{slotsOut, editionOut, dayOut, startChecks, startOutcome, enterChecks, judgedFor, settledOf, termOf, entered, fileOutcome, enterOutcome, handed, verdictOf, stateOf, keeps, fileAll, enterAll, withdrawChecks, withdrawOutcome, verdictNumber}
 use Rattle.campaign.specs.declared.Shown.{Shown}
@@ -77,6 +82,7 @@ use Rattle.campaign.specs.declared.Verdict.the-variants as verdict
 use Rattle.trend.specs.Calls.{worked, meanAt, countsOutcome, countsNumber, responseChecks, responseOutcome, summaryChecks, summaryOutcome, summaryNumber}
 use Rattle.trend.proofs.Bounds.{worked-small, mean-fits}
 use Rattle.trend.proofs.Enough as of-trend
+use Rattle.trend.proofs.Late.{Opposed}
 use Rattle.trend.proofs.MeansAlone.{inEdition, same-counts, same-summary, same-but-means}
 use Rattle.trend.specs.declared.Counts.the-variants as counts
 use Rattle.trend.specs.declared.Levels.{Levels}
@@ -89,6 +95,8 @@ use Rattle.history.proofs.KeptEdition as kept-edition
 use Rattle.history.proofs.EveryRun as every-run
 use Rattle.history.proofs.AsIf as as-if
 use Rattle.history.proofs.ExactLevels.{Exact, levels-carried}
+use Rattle.history.proofs.Late.{places, responseOf, Given, levels-late, peak-turns}
+use Rattle.history.proofs.LateNights.{LateBy, alone-late, answer-late, makes-late, late-by}
 use Rattle.demands.specs.Buffers.{KeepsTail, Cleared}
 use Rattle.sums.proofs.First.{answers-first, refused-same, either-0, or-exactly, ltb-exactly, exactly, passed-over}
 use Rattle.demands.proofs.Checking.{refused-leaves}
@@ -562,6 +570,67 @@ halves-to-even =
       λ h. (λ p. subst T (ap editionOut p) (subst T (sym h) tt), λ p. subst T (ap editionOut p) (subst T (sym h) tt)),
       λ n. ap₂ (λ a b. not (a || b)) (ne-eqb e 1 (n .0)) (ne-eqb e 2 (n .1)),
     )
+
+-- ---- Document 02: "a recording rotated by d places (place j holds what place j+d held, modulo P) gives a response rotated by the same d, for every accepted
+-- register, every recording in range and every d from 0 to P-1, and … the highest and lowest levels, and the size of the level at the peak, are unchanged when
+-- one such day stands alone, neither recording being set aside. Where several places are equally large the peak remains the first, so its sign may change if two
+-- of them have opposite signs, and otherwise may not."
+--
+-- `late P d y` is y with each of its periods of P rotated by d: a recording is one period, and a capture several. `LateBy d`: two runs of the same order and taps,
+-- in each of which one day stands alone, with as many periods, and at place j of the second's slot lies what place j + d of the first's does. `Given w l`: a
+-- summary of w gives the levels l. `places w` is P, and `responseOf w` is r from the sums. `Opposed n r`: two of the places 0 to n - 1 where |r| is largest have
+-- opposite signs. `neg x` is the double x with the other sign.
+
+pub record Lateness : Type 0 where
+  pub rotated : (P d m : ℕ) (y : List ℤ) → length y ≡ m * P → (i j : ℕ) → i < m → j < P → at (late P d y) (i * P + j) ≡ at y (i * P + (j + d) % P)
+  -- one recording, accepted or refused
+  pub recording : (N taps d : ℕ) (y out room : List ℤ) (tags : List ℕ) → let o = recordingOutcome N taps y out room tags in o .0 ≡ 0
+      → let v = recordingOutcome N taps (late (P N) d y) out room tags in
+      (v .0 ≡ 0) × ((k : ℕ) → k < P N → at (v .1) k ≡ at (o .1) ((k + d) % P N)) × (v .2 ≡ o .2) × (v .3 ≡ o .3)
+  pub refused : (N taps d : ℕ) (y out room : List ℤ) (tags : List ℕ) → (recordingOutcome N taps y out room tags .0 ≡ 0 → ⊥)
+      → recordingOutcome N taps (late (P N) d y) out room tags ≡ recordingOutcome N taps y out room tags
+  -- a night of either kind: one is judged kept exactly if the other is; entered, both answer the same number, and make the same of the day
+  pub judged : (N taps d : ℕ) (night : Night) (y : List ℤ) → (judging N taps night (late (P N) d y) ≡ judged.Kept) ↔ (judging N taps night y ≡ judged.Kept)
+  pub entered : (w : World) (day d : ℕ) (night : Night) (y : List ℤ) → let z = late (P (w .campaign .order)) d y in
+      (answer w (call.enter day night z) ≡ answer w (call.enter day night y))
+      × (answer w (call.enter day night y) ≡ 0 → makes w (call.enter day night z) ≡ makes w (call.enter day night y))
+  -- entered where no day stands, and kept, either stands alone
+  pub alone : (w₀ : World) (cs : List Call) → underWay w₀ cs ≡ true → ((e : ℕ) → 1 ≤ e → e ≤ 366 → made w₀ cs e ≡ standing → ⊥)
+      → (day d : ℕ) (night : Night) (y : List ℤ) → let w = run w₀ cs in
+      answer w (call.enter day night y) ≡ 0 → makes w (call.enter day night y) ≡ standing
+      → LateBy d w₀ w₀ (call.enter day night y ∷ cs) (call.enter day night (late (P (w .campaign .order)) d y) ∷ cs) day day
+  -- the levels of two such campaigns
+  pub levels : (d : ℕ) (w₁ w₂ : World) (cs₁ cs₂ : List Call) (day₁ day₂ : ℕ) → underWay w₁ cs₁ ≡ true → underWay w₂ cs₂ ≡ true
+      → LateBy d w₁ w₂ cs₁ cs₂ day₁ day₂ → (l₁ l₂ : Levels) → Given (run w₁ cs₁) l₁ → Given (run w₂ cs₂) l₂
+      → (l₂ .highest ≡ l₁ .highest) × (l₂ .lowest ≡ l₁ .lowest) × ((l₂ .peak ≡ l₁ .peak) ⊎ (l₂ .peak ≡ neg (l₁ .peak)))
+      × ((Opposed (places (run w₁ cs₁)) (responseOf (run w₁ cs₁)) → ⊥) → l₂ .peak ≡ l₁ .peak)
+  -- and where two of the largest places have opposite signs, some d does change the sign
+  pub sign : (w₁ : World) (cs₁ : List Call) (day₁ : ℕ) → underWay w₁ cs₁ ≡ true → Opposed (places (run w₁ cs₁)) (responseOf (run w₁ cs₁))
+      → (d : ℕ) × (d < places (run w₁ cs₁)) × ((w₂ : World) (cs₂ : List Call) (day₂ : ℕ) → underWay w₂ cs₂ ≡ true → LateBy d w₁ w₂ cs₁ cs₂ day₁ day₂
+      → (l₁ l₂ : Levels) → Given (run w₁ cs₁) l₁ → Given (run w₂ cs₂) l₂ → (l₂ .peak ≡ neg (l₁ .peak)) × (l₂ .peak ≡ l₁ .peak → ⊥))
+
+pub starts-late : Lateness
+starts-late =
+    record {
+      rotated = λ P d m y. late-place P d y m;
+      recording = λ N taps d y out room tags e.
+          let a = accepted-late N taps d y out room tags e in
+          (ap (λ o. o .0) a, output-late N taps d y out room tags e, ap (λ o. o .2) a, ap (λ o. o .3) a);
+      refused = refused-late;
+      judged = λ N taps d night y. kept-late N d night y taps;
+      entered = λ w day d night y. (answer-late w day d night y, makes-late w day d night y);
+      alone = λ w₀ cs u none day d night y e k. late-by w₀ cs u day night y (λ f r. none f (r .first) (r .last)) e k d;
+      levels = λ d w₁ w₂ cs₁ cs₂ day₁ day₂ u₁ u₂ b l₁ l₂ g₁ g₂.
+          let s = alone-late d w₁ w₂ cs₁ cs₂ u₁ u₂ day₁ day₂ b in
+          let m = levels-late d (run w₁ cs₁) (run w₂ cs₂) (every-run.holds w₁ cs₁ u₁) (every-run.holds w₂ cs₂ u₂) s g₁ g₂ in
+          (m .highest, m .lowest, m .size, m .peak);
+      sign = λ w₁ cs₁ day₁ u₁ o.
+          let t = peak-turns (run w₁ cs₁) (every-run.holds w₁ cs₁ u₁) o in (
+            t .by,
+            t .by-within,
+            λ w₂ cs₂ day₂ u₂ b. t .turns (run w₂ cs₂) (every-run.holds w₂ cs₂ u₂) (alone-late (t .by) w₁ w₂ cs₁ cs₂ u₁ u₂ day₁ day₂ b),
+          );
+    }
 
 -- ---- 3. "After any run of calls from a fresh campaign, refused ones included and its lent memory untouched between, each day's state is what the last
 -- accepted call naming that day made it, or unseen if there was none. The sums total, place by place, the last recordings accepted for exactly the days

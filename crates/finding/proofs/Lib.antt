@@ -2,3 +2,4 @@
 pub mod Exactly
 pub mod Loud
 pub mod Numbers
+pub mod Late

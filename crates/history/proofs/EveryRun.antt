@@ -135,6 +135,29 @@ module _ (w₀ : World) (cs : List Call) (started : underWay w₀ cs ≡ true) w
         | no e ↦ rw (ne-eqb (slot (run w₀ cs .campaign) k) 0 e) (ap pos (history .slot-counts k h e))
       ]
 
+  -- what stands is not nothing
+  pub some-day : (d : ℕ) → Day d → made w₀ cs d ≡ standing → daysIn (w .campaign) standing ≡ 0 → ⊥
+  some-day d y e z =
+      let x : d - 1 + 1 ≡ d = omega (arith, y .first) in
+      let v : state (w .campaign) (d - 1 + 1) ≡ standing = ap (state (w .campaign)) x ∙ each-day d y ∙ e in
+      omega (
+        arith,
+        many-some 366 (λ i. stands (w .campaign) (i + 1)) (d - 1) (omega (arith, y .first, y .last)) (eq-eqb (state (w .campaign) (d - 1 + 1)) standing v),
+      )
+
+  -- the response from the sums is the total of the responses of the days standing
+  pub by-days : (k : ℕ) → formula.response (P N) (wave N taps) (at (w .sums)) k
+      ≡ sum 366 (λ i. cond (eqb (made w₀ cs (i + 1)) standing) (formula.response (P N) (wave N taps) (termAt (P N) (heard w₀ cs (i + 1))) k) (pos 0))
+  by-days k =
+      response-ext (P N) (wave N taps) sums-are k
+      ∙ response-sum (P N) (wave N taps) 366 (λ i j. cond (eqb (made w₀ cs (i + 1)) standing) (termAt (P N) (heard w₀ cs (i + 1)) j) (pos 0)) k
+      ∙ sum-ext 366 (λ i _. go i (eqb (made w₀ cs (i + 1)) standing))
+    where
+      go : (i : ℕ) (b : Bool) → formula.response (P N) (wave N taps) (λ j. cond b (termAt (P N) (heard w₀ cs (i + 1)) j) (pos 0)) k
+          ≡ cond b (formula.response (P N) (wave N taps) (termAt (P N) (heard w₀ cs (i + 1))) k) (pos 0)
+      go i true = refl
+      go i false = response-zero (P N) (wave N taps) k
+
   -- ---- 4. If at least one day stands and each period of each such recording is the circular convolution of its own whole-number response with
   -- the sequence, the response answers 0 and r at every place is exactly (P+1) times the sum of those responses.
 
@@ -149,11 +172,11 @@ module _ (w₀ : World) (cs : List Call) (started : underWay w₀ cs ≡ true) w
     responses k = sum 366 (λ i. cond (eqb (made w₀ cs (i + 1)) standing) (sum (heard w₀ cs (i + 1) .periods) (λ p. h (i + 1) p k)) (pos 0))
 
     one-day : (i k : ℕ) → i < 366 → k < P N
-        → formula.response (P N) (wave N taps) (λ j. cond (eqb (made w₀ cs (i + 1)) standing) (termAt (P N) (heard w₀ cs (i + 1)) j) (pos 0)) k
+        → cond (eqb (made w₀ cs (i + 1)) standing) (formula.response (P N) (wave N taps) (termAt (P N) (heard w₀ cs (i + 1))) k) (pos 0)
         ≡ pos (suc (P N)) *ℤ cond (eqb (made w₀ cs (i + 1)) standing) (ofDay (i + 1) k) (pos 0)
     one-day i k l m = elim (ℕ-discrete (made w₀ cs (i + 1)) standing) [
       | yes e ↦ rw (eq-eqb (made w₀ cs (i + 1)) standing e) (by-periods e)
-      | no e ↦ rw (ne-eqb (made w₀ cs (i + 1)) standing e) (response-zero (P N) (wave N taps) k ∙ sym (*ℤ-zero (pos (suc (P N)))))
+      | no e ↦ rw (ne-eqb (made w₀ cs (i + 1)) standing e) (sym (*ℤ-zero (pos (suc (P N)))))
     ]
       where
         by-periods : made w₀ cs (i + 1) ≡ standing → formula.response (P N) (wave N taps) (termAt (P N) (heard w₀ cs (i + 1))) k ≡ pos (suc (P N)) *ℤ ofDay (i + 1) k
@@ -166,9 +189,7 @@ module _ (w₀ : World) (cs : List Call) (started : underWay w₀ cs ≡ true) w
     from-sums : (k : ℕ) → k < P N → formula.response (P N) (wave N taps) (at (w .sums)) k ≡ pos (suc (P N)) *ℤ responses k
     unfolding responses
     from-sums k m =
-        response-ext (P N) (wave N taps) sums-are k
-        ∙ response-sum (P N) (wave N taps) 366 (λ i j. cond (eqb (made w₀ cs (i + 1)) standing) (termAt (P N) (heard w₀ cs (i + 1)) j) (pos 0)) k
-        ∙ sum-ext 366 (λ i l. one-day i k l m)
+        by-days k ∙ sum-ext 366 (λ i l. one-day i k l m)
         ∙ sum-scale 366 (pos (suc (P N))) (λ i. cond (eqb (made w₀ cs (i + 1)) standing) (ofDay (i + 1) k) (pos 0))
 
     pub recovered : (d : ℕ) → Day d → made w₀ cs d ≡ standing → (r mean room : List ℤ) (tags : List ℕ) → RoomFor N r mean room tags
@@ -176,19 +197,10 @@ module _ (w₀ : World) (cs : List Call) (started : underWay w₀ cs ≡ true) w
         (o .0 ≡ 0) × ((k : ℕ) → k < P N → at (o .1) k ≡ pos (suc (P N)) *ℤ responses k)
     recovered d y e r mean room tags long =
         let s = history in
-        let a = answers (run w₀ cs .campaign) (run w₀ cs .store) (run w₀ cs .sums) r mean room tags holds (subst (λ n. RoomFor n r mean room tags) (sym (s .order)) long) some-day in (
+        let a = answers (run w₀ cs .campaign) (run w₀ cs .store) (run w₀ cs .sums) r mean room tags holds (subst (λ n. RoomFor n r mean room tags) (sym (s .order)) long) (some-day d y e) in (
           ap (λ o. o .0) a,
           λ k m. ap (λ o. at (o .1) k) a
               ∙ at-put (P (run w₀ cs .campaign .order)) (worked (run w₀ cs .campaign) (run w₀ cs .sums)) r k (pos 0) (omega (arith, ap P (s .order)))
               ∙ ap₂ (λ n t. formula.response (P n) (wave n t) (at (run w₀ cs .sums)) k) (s .order) (s .taps)
               ∙ from-sums k m,
         )
-      where
-        some-day : daysIn (run w₀ cs .campaign) standing ≡ 0 → ⊥
-        some-day z =
-            let x : d - 1 + 1 ≡ d = omega (arith, y .first) in
-            let v : state (run w₀ cs .campaign) (d - 1 + 1) ≡ standing = ap (state (run w₀ cs .campaign)) x ∙ history .days d y ∙ e in
-            omega (
-              arith,
-              many-some 366 (λ i. stands (run w₀ cs .campaign) (i + 1)) (d - 1) (omega (arith, y .first, y .last)) (eq-eqb (state (run w₀ cs .campaign) (d - 1 + 1)) standing v),
-            )

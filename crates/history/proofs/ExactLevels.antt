@@ -6,7 +6,7 @@ use mathlib.Core.Bool.{Bool, true, false, cond, not}
 use mathlib.Core.List.{List}
 use Prim.Native.Nat.{ℕ, _+_, _^_, _≤_}
 use native.Mathlib.Omega.{arith}
-use borrow.Author.Tests.{ne-eqb}
+use borrow.Author.Tests.{eq-eqb, ne-eqb}
 use lib.Dec.{eqb}
 use lib.Ieee.{Float}
 use lib.Ieee.Exact.{HasValue}
@@ -41,7 +41,7 @@ pub record Exact (c : Campaign) (sums : List ℤ) (l : Levels) : Type 0 where
   pub peak : Reads c (extremesOf (P (c .order)) (worked c sums) .peak) (l .peak)
 
 -- the levels of a record, and what a summary hands back with them
-abbrev levels : Campaign → List ℤ → Levels
+abbrev pub levels : Campaign → List ℤ → Levels
 levels c sums = levelsOf (P (c .order)) (worked c sums) (divisor c)
 
 abbrev measured : Campaign → List ℤ → List ℤ → List ℕ → Summary × List ℤ × List ℕ
@@ -49,7 +49,7 @@ measured c sums room tags = (Measured (levels c sums), clearedWide (P (c .order)
 
 module _ (c : Campaign) (store sums room : List ℤ) (tags : List ℕ) (h : together c store sums ≡ true) where
   -- a summary carries no other levels than these
-  carried : (l : Levels) → summaryOutcome c store sums room tags .0 ≡ Measured l → levels c sums ≡ l
+  pub carried : (l : Levels) → summaryOutcome c store sums room tags .0 ≡ Measured l → levels c sums ≡ l
   unfolding summaryOutcome
   carried l = rw h (by-checks (workShort (P (c .order)) (length room) (length tags)) (eqb (daysIn c standing) 0))
     where
@@ -60,6 +60,25 @@ module _ (c : Campaign) (store sums room : List ℤ) (tags : List ℕ) (h : toge
       by-checks false true e = let z : _≡_ {A = ℕ} 0 1 = cc in absurd (omega arith)
       by-checks false false e = cc
 
+  -- and it carries none where no day stands
+  pub carries-some : (l : Levels) → summaryOutcome c store sums room tags .0 ≡ Measured l → daysIn c standing ≡ 0 → ⊥
+  unfolding summaryOutcome
+  carries-some l e z = by-checks (workShort (P (c .order)) (length room) (length tags)) (rw (h, eq-eqb (daysIn c standing) 0 z) at e)
+    where
+      by-checks : (short : Bool) → answered {A = Summary × List ℤ × List ℕ} (cond short 6 0) (λ n. (Refused n, room, tags)) (Nothing, room, tags) .0 ≡ Measured l → ⊥
+      by-checks true e = let z : _≡_ {A = ℕ} 0 1 = cc in omega arith
+      by-checks false e = let z : _≡_ {A = ℕ} 0 1 = cc in omega arith
+
+  -- where a day stands, and the room is enough, it carries them
+  pub measures : (daysIn c standing ≡ 0 → ⊥) → P (c .order) + 1 ≤ length room → P (c .order) ≤ length tags
+      → summaryOutcome c store sums room tags .0 ≡ Measured (levels c sums)
+  unfolding summaryOutcome
+  measures some long wide =
+      rw (
+        accepts (summaryChecks c store sums room tags) (ap not h, (work-enough (P (c .order)) (length room) (length tags) long wide, tt)),
+        ne-eqb (daysIn c standing) 0 some,
+      )
+
   module _ (m : ℕ) (e : periodsStanding c ≡ 2 ^ m) where
     pub levels-carried : (l : Levels) → summaryOutcome c store sums room tags .0 ≡ Measured l → Exact c sums l
     levels-carried l q =
@@ -67,12 +86,7 @@ module _ (c : Campaign) (store sums room : List ℤ) (tags : List ℕ) (h : toge
         subst (Exact c sums) (carried l q) (record { highest = level-at _; lowest = level-at _; peak = level-at _ })
 
     pub carries-levels : P (c .order) + 1 ≤ length room → P (c .order) ≤ length tags → summaryOutcome c store sums room tags .0 ≡ Measured (levels c sums)
-    unfolding summaryOutcome
-    carries-levels long wide =
-        rw (
-          accepts (summaryChecks c store sums room tags) (ap not h, (work-enough (P (c .order)) (length room) (length tags) long wide, tt)),
-          ne-eqb (daysIn c standing) 0 (λ z. omega (arith, pow-pos m, periods-days c (holds-together c store sums .0 h .filed))),
-        )
+    carries-levels = measures (λ z. omega (arith, pow-pos m, periods-days c (holds-together c store sums .0 h .filed)))
 
 -- so after any run in which a start was accepted
 pub run-levels-carried : (w₀ : World) (cs : List Call) → underWay w₀ cs ≡ true → let w = run w₀ cs in (m : ℕ) → periodsStanding (w .campaign) ≡ 2 ^ m

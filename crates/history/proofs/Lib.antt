@@ -13,3 +13,5 @@ pub mod Numbers
 pub mod Order
 pub mod ExactLevels
 pub mod Determined
+pub mod Late
+pub mod LateNights

@@ -2,3 +2,4 @@
 pub mod Heard
 pub mod Judgements
 pub mod Order
+pub mod Late

@@ -1,2 +1,3 @@
 -- The laws of a night's samples.
 pub mod Terms
+pub mod Late

@@ -53,7 +53,7 @@ fn recovered_line(order: u32, h: &[i32])
 }
 
 // The default taps, and 0 where the order has none.
-fn taps_of(order: u32) -> u32 {
+pub fn taps_of(order: u32) -> u32 {
     match default_taps(order) {
         DefaultTaps::Taps(taps) => taps,
         DefaultTaps::Refused(_) => 0,

@@ -1,6 +1,8 @@
 // The numbers to hold the meter to, from the proved calls: a second program prints the same lines.
 mod checks;
 mod large;
+mod late;
+mod late_nights;
 mod recordings;
 mod signals;
 
@@ -13,4 +15,5 @@ fn main() {
     recordings::mean_lines();
     recordings::refused_line();
     large::large_lines();
+    late::late_lines();
 }

@@ -11,3 +11,4 @@ pub mod Clearing
 pub mod Checks
 pub mod Order
 pub mod Enough
+pub mod Late

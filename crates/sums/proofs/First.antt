@@ -53,6 +53,14 @@ passed-first ((suc n, true) ∷ a) b t h = absurd (omega arith)
 passed-first ((zero, false) ∷ a) b t h = absurd t
 passed-first ((suc n, false) ∷ a) b t h = passed-first a b t h
 
+-- what comes behind a check counts only where that check's test does not hold
+pub behind : (early : List (ℕ × Bool)) (n : ℕ) (test : Bool) (a b : List (ℕ × Bool)) → (test ≡ false → first a ≡ first b)
+    → first (early ++ (n, test) ∷ a) ≡ first (early ++ (n, test) ∷ b)
+behind [] n true a b h = refl
+behind [] n false a b h = h refl
+behind ((m, true) ∷ early) n test a b h = refl
+behind ((m, false) ∷ early) n test a b h = behind early n test a b h
+
 -- accepted is to have passed each check
 abbrev pub Passed : List (ℕ × Bool) → Type 0
 Passed [] = Unit

@@ -16,3 +16,5 @@ pub mod Equal
 pub mod Largest
 pub mod Scanning
 pub mod Parts
+pub mod Reordered
+pub mod Turned

@@ -2,10 +2,13 @@
 use mathlib.Core.Path.{_≡_, refl, sym, ap, ap₂, _∙_}
 use mathlib.Core.Bool.{Bool, true, false, _||_}
 use Prim.Native.Nat.{ℕ, zero, suc, _<_}
-use native.Mathlib.Decide.{ℕ-discrete}
+use native.Mathlib.Decide.{ℕ-discrete, decLt}
 use native.Mathlib.Omega.{arith}
-use Rattle.sums.specs.Lists.{some}
+use borrow.Author.Tests.{lt-ltb, le-ltb}
+use lib.Dec.{ltb}
+use Rattle.sums.specs.Lists.{seek, some}
 use Rattle.sums.proofs.First.{or-false}
+use Rattle.sums.proofs.Seek.{seek-first}
 
 or-true : (a : Bool) → a || true ≡ true
 or-true true = refl
@@ -42,3 +45,12 @@ module _ (test : ℕ → Bool) where
   pub some-past : (n : ℕ) → test n ≡ false → some n test ≡ false → some (suc n) test ≡ false
   unfolding some
   some-past n t h = ap₂ _||_ h t
+
+  -- a place is found just where there is one
+  pub seek-some : (n : ℕ) → ltb (seek test n 0) n ≡ some n test
+  seek-some n =
+      let f = seek-first test n 0 in
+      elim (decLt (seek test n 0) n) [
+        | yes l ↦ lt-ltb (seek test n 0) n l ∙ sym (some-at n (seek test n 0) l (f .here (omega arith)))
+        | no l ↦ le-ltb (seek test n 0) n (omega arith) ∙ sym (some-none n (λ i k. f .before i (omega arith) (omega arith)))
+      ]

@@ -97,6 +97,16 @@ sum-delta (suc n) k f h = elim (ℕ-discrete n k) [
   | no e ↦ ap₂ (λ a b. a +ℤ b *ℤ f n) (sum-delta n k f (omega arith)) (delta-other k n e) ∙ simp (zero-*ℤ, +ℤ-idr)
 ]
 
+-- a sum of which one term counts
+pub sum-only : (n k : ℕ) (f : ℕ → ℤ) → k < n → ((i : ℕ) → i < n → (i ≡ k → ⊥) → f i ≡ pos 0) → sum n f ≡ f k
+sum-only n k f h none = sum-ext n each ∙ sum-delta n k f h
+  where
+    each : (i : ℕ) → i < n → f i ≡ delta k i *ℤ f i
+    each i l = elim (ℕ-discrete i k) [
+      | yes e ↦ sym (ap (λ a. a *ℤ f i) (ap (delta k) e ∙ delta-same k) ∙ one-*ℤ (f i))
+      | no e ↦ none i l e ∙ sym (ap (λ a. a *ℤ f i) (delta-other k i e) ∙ zero-*ℤ (f i))
+    ]
+
 -- a sum of which one term changes
 pub sum-changed : (n k : ℕ) (f g : ℕ → ℤ) → k < n → ((i : ℕ) → i < n → (i ≡ k → ⊥) → g i ≡ f i) → sum n g ≡ sum n f +ℤ (g k -ℤ f k)
 sum-changed n k f g h same =
@@ -202,3 +212,6 @@ total-changed (suc n) k f g h same = elim (ℕ-discrete n k) [
   where
     last : n ≡ k → total n g ≡ total n f → total n g + g n + f k ≡ total n f + f n + g k
     last e t = rw (sym e) (omega arith)
+
+pub total-only : (n k : ℕ) (f : ℕ → ℕ) → k < n → ((i : ℕ) → i < n → (i ≡ k → ⊥) → f i ≡ 0) → total n f ≡ f k
+total-only n k f h none = ap natAbs (pos-total n f ∙ sum-only n k (λ i. pos (f i)) h (λ i l e. ap pos (none i l e)))

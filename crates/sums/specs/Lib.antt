@@ -5,3 +5,4 @@ pub mod Largest
 pub mod Equal
 pub mod Refusals
 pub mod Text
+pub mod Turned

@@ -4,3 +4,5 @@ pub mod Leveling
 pub mod Enough
 pub mod Passing
 pub mod MeansAlone
+pub mod LevelSign
+pub mod Late
