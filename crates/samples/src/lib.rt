@@ -1,4 +1,6 @@
 // Samples: their range and its rails, the size of a number, buffers cleared, rows copied and added, and lengths that are too short.
+#![tactic(auto)]
+
 pub mod clearing;
 pub mod lengths;
 pub mod range;

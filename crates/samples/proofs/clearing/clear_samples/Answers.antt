@@ -1,0 +1,13 @@
+-- `samples::clearing::clear_samples` meets its contract: after i turns the first i samples are 0. Assumes nothing.
+use mathlib.Core.Path.{◌≡◌, refl}
+use Prim.Native.Nat.{◌≤◌, ◌-◌}
+use native.Mathlib.Omega.{arith}
+use lib.IntN.{pos}
+use Rattle.sums.proofs.Tables.{Written, written_none, written_more, written_length}
+use Rattle.samples.proofs.clearing.clear_samples.Goals as goal
+
+pub loop-i-init : goal.loop-i-init
+loop-i-init c = (omega arith, written_none)
+
+pub loop-i-preserved : goal.loop-i-preserved
+loop-i-preserved c = (omega arith, written_more c.loop-i.invariant.1 (omega arith) refl)

@@ -1,0 +1,34 @@
+-- `samples::range::some_beyond` meets its contract: of the values passed it is known whether one lies beyond a bound. Assumes nothing.
+use mathlib.Core.Path.{◌≡◌, refl, ap, ap₂, ◌∙◌}
+use mathlib.Core.Bool.{Bool, ◌||◌}
+use mathlib.Core.List.{List}
+use Prim.Native.Nat.{ℕ, ◌≤◌, ◌-◌}
+use native.Mathlib.Numerals.{add-one}
+use native.Mathlib.Omega.{arith}
+use lib.IntN.{ℤ}
+use lib.ListN.{length}
+use lib.Signed.{lt_z}
+use mir.Syntax.{w32}
+use mir.Val.{to_z, of_z}
+use mir.Facts.{to_z-of_z}
+use Rattle.sums.specs.Lists.{at, some}
+use Rattle.sums.proofs.Bound.{read}
+use Rattle.samples.proofs.range.some_beyond.Invariants.{outside}
+use Rattle.samples.proofs.range.some_beyond.Goals as goal
+use Rattle.samples.proofs.range.some_beyond.Goals.{After-beyond}
+
+-- what the test says of the value itself
+tested : (c : After-beyond)
+    → c.beyond.result ≡ outside (to_z w32 (of_z w32 c.args.low)) (to_z w32 (of_z w32 c.args.high)) c.args.y.now c.loop-j.j
+tested c =
+    c.beyond.ensures
+    ∙ ap (λ z. lt_z z (to_z w32 (of_z w32 c.args.low)) || lt_z (to_z w32 (of_z w32 c.args.high)) z) (read w32 (at c.args.y.now c.loop-j.j) c.beyond-arg-1.given)
+
+pub loop-j-init : goal.loop-j-init
+unfolding some
+loop-j-init c = (omega arith, refl)
+
+pub loop-j-preserved : goal.loop-j-preserved
+unfolding some
+loop-j-preserved c =
+    (omega arith, rw add-one (c.either-out.ensures ∙ ap₂ ◌||◌ c.loop-j.invariant.1 (tested (goal.at.loop-j-preserved c).After-beyond)))
