@@ -10,13 +10,13 @@ use records::Campaign;
 use register::Answer;
 
 // A start's answer, and the record that it made, or that it was given.
-#[derive(Drop)]
+#[derive(Clone, Copy)]
 pub struct Started {
     pub answer: Answer,
     pub campaign: Campaign,
 }
 
-#[derive(Drop)]
+#[derive(Clone, Copy)]
 pub enum Verdict {
     // Kept in this slot.
     Kept(usize),
@@ -29,7 +29,7 @@ pub enum Verdict {
 }
 
 // What a filing goes by.
-#[derive(Drop)]
+#[derive(Clone, Copy)]
 pub enum Shown {
     // No verdict was handed in: judging's own.
     Own,
@@ -38,19 +38,19 @@ pub enum Shown {
 }
 
 // An entry's answer: the verdict beside the day.
-#[derive(Drop)]
+#[derive(Clone, Copy)]
 pub struct Entry {
     pub day: u32,
     pub verdict: Verdict,
 }
 
-#[derive(Drop)]
+#[derive(Clone, Copy)]
 pub struct Entered {
     pub entry: Entry,
     pub campaign: Campaign,
 }
 
-#[derive(Drop)]
+#[derive(Clone, Copy)]
 pub struct Withdrawn {
     pub answer: u32,
     pub campaign: Campaign,

@@ -1,7 +1,7 @@
 // The default taps: an entry for each order, and each maximal.
 pub mod taps;
 
-#[derive(Drop)]
+#[derive(Clone, Copy)]
 pub enum DefaultTaps {
     Taps(u32),
     // The refusal's number.

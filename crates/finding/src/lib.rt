@@ -6,7 +6,7 @@ mod spread;
 // The largest spread of a dead recording.
 pub const DEAD_SPREAD: i64 = 7;
 
-#[derive(Drop)]
+#[derive(Clone, Copy)]
 pub enum Finding {
     // At a rail, first at this place.
     Overloaded(usize),
@@ -17,7 +17,7 @@ pub enum Finding {
 }
 
 // What the scan for a rail finds: the first place, or none.
-#[derive(Drop)]
+#[derive(Clone, Copy)]
 pub enum Rail {
     First(usize),
     Clear,

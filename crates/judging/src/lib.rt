@@ -6,7 +6,7 @@ pub mod verdicts;
 use finding::Finding;
 
 // What its samples alone say of a night.
-#[derive(Drop)]
+#[derive(Clone, Copy)]
 pub enum Hearing {
     // The refusal's number.
     Refused(u32),
@@ -14,7 +14,7 @@ pub enum Hearing {
     Found(Finding),
 }
 
-#[derive(Drop)]
+#[derive(Clone, Copy)]
 pub enum Judged {
     // Nothing is against it. Which slot it takes is known only when it is filed.
     Kept,
@@ -28,7 +28,7 @@ pub enum Judged {
 
 // The verdict, and the steps after which the register first returns to all ones, where it is accepted and where 4 refuses it. At any other refusal the period
 // is 0.
-#[derive(Drop)]
+#[derive(Clone, Copy)]
 pub struct Judgement {
     pub verdict: Judged,
     pub period: u32,

@@ -7,7 +7,7 @@ pub mod phases;
 use nights::Night;
 
 // Where the log stands between items.
-#[derive(Drop)]
+#[derive(Clone, Copy)]
 pub enum Phase {
     // No item yet.
     Unbegun,
@@ -20,7 +20,7 @@ pub enum Phase {
 }
 
 // An item of the log.
-#[derive(Drop)]
+#[derive(Clone, Copy)]
 pub enum Item {
     // Order, taps, capacity.
     Start(u32, u32, u32),
@@ -36,7 +36,7 @@ pub enum Item {
 }
 
 // What stands at a place of the log.
-#[derive(Drop)]
+#[derive(Clone, Copy)]
 pub enum Found {
     // A whole item, and how many bytes it takes.
     Whole(Item, usize),

@@ -14,13 +14,13 @@ pub const LOG_SLOTS: u32 = 8;
 pub const LOG_PERIODS: u32 = 4;
 
 // The state between items, beside the memory lent.
-#[derive(Drop)]
+#[derive(Clone, Copy)]
 pub struct Book {
     pub phase: Phase,
     pub campaign: Campaign,
 }
 
-#[derive(Drop)]
+#[derive(Clone, Copy)]
 pub struct Applied {
     pub book: Book,
     pub line: Line,

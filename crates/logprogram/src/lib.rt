@@ -5,7 +5,7 @@ pub mod writing;
 use logbook::Book;
 
 // Where the program stands, beside the memory lent.
-#[derive(Drop)]
+#[derive(Clone, Copy)]
 pub struct Bookmark {
     pub book: Book,
     // The offset of the next kind byte.
@@ -14,7 +14,7 @@ pub struct Bookmark {
 }
 
 // A turn's text is the first `length` bytes of what was lent for it.
-#[derive(Drop)]
+#[derive(Clone, Copy)]
 pub struct Turned {
     pub mark: Bookmark,
     // How many bytes it took.

@@ -7,7 +7,7 @@ use running::run;
 use telling::{tell, word_for};
 
 // What could not be done.
-#[derive(Drop)]
+#[derive(Clone, Copy)]
 pub enum Failed {
     Nothing,
     // A turn's text was not written whole.
@@ -17,7 +17,7 @@ pub enum Failed {
 }
 
 // Where the program stands, the bytes of the buffer that are at hand, and what failed.
-#[derive(Drop)]
+#[derive(Clone, Copy)]
 pub struct Progress {
     pub mark: Bookmark,
     pub from: usize,
@@ -27,7 +27,7 @@ pub struct Progress {
 }
 
 // What is said on standard error once the program has stopped.
-#[derive(Drop)]
+#[derive(Clone, Copy)]
 pub enum Word {
     // The log ended where it may, what failed is told already, or the program took all of its turns.
     Silence,

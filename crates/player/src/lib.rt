@@ -2,7 +2,7 @@
 pub mod clock;
 
 // What the sample clock steps: the window's bit 0 goes out next; the count runs modulo 2^32.
-#[derive(Drop)]
+#[derive(Clone, Copy)]
 pub struct Player {
     pub order: u32,
     pub taps: u32,
@@ -10,7 +10,7 @@ pub struct Player {
     pub count: u32,
 }
 
-#[derive(Drop)]
+#[derive(Clone, Copy)]
 pub enum NewPlayer {
     Ready(Player),
     // The refusal's number.
@@ -18,7 +18,7 @@ pub enum NewPlayer {
 }
 
 // What one clock of a player gives.
-#[derive(Drop)]
+#[derive(Clone, Copy)]
 pub enum Tick {
     // +1 or -1.
     Sign(i32),
@@ -27,14 +27,14 @@ pub enum Tick {
 }
 
 // The tick, and the player as it is after it.
-#[derive(Drop)]
+#[derive(Clone, Copy)]
 pub struct Stepped {
     pub tick: Tick,
     pub player: Player,
 }
 
 // What a block of signs gives: 0 or the refusal's number, and the player as it is after it.
-#[derive(Drop)]
+#[derive(Clone, Copy)]
 pub struct Played {
     pub answer: u32,
     pub player: Player,

@@ -33,7 +33,7 @@ pub const NO_PERIODS: u8 = 0;
 
 // `capacity` is how many slots it has, and `edition` that of the report rules; `days` holds each day's state, `slots` each slot's day, and `periods` how
 // many periods that day's night had.
-#[derive(Drop)]
+#[derive(Clone, Copy)]
 pub struct Campaign {
     pub order: u32,
     pub taps: u32,

@@ -6,7 +6,7 @@ use register::Answer;
 use trend::Tally;
 
 // The line that an item makes.
-#[derive(Drop)]
+#[derive(Clone, Copy)]
 pub enum Line {
     Silent,
     Started(Answer),
@@ -23,7 +23,7 @@ pub enum Line {
 pub const LINE_ROOM: usize = 128;
 
 // A line's bytes: the first `length` of them.
-#[derive(Drop)]
+#[derive(Clone, Copy)]
 pub struct Text {
     pub bytes: [u8; LINE_ROOM],
     pub length: usize,

@@ -1,4 +1,6 @@
 // The rounding of a mean, by an edition of the report rules.
+#![tactic(auto)]
+
 pub mod editions;
 pub mod means;
 
@@ -8,7 +10,7 @@ pub const AWAY_FROM_ZERO: u32 = 1;
 pub const TO_EVEN: u32 = 2;
 
 // A number as 2^times times the rest.
-#[derive(Drop)]
+#[derive(Clone, Copy)]
 pub struct Halved {
     pub times: u32,
     pub rest: u64,

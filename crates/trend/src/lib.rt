@@ -7,7 +7,7 @@ mod rooms;
 pub mod summarising;
 
 // The days in each of the five states.
-#[derive(Drop)]
+#[derive(Clone, Copy)]
 pub struct Tally {
     pub unseen: u32,
     pub standing: u32,
@@ -16,7 +16,7 @@ pub struct Tally {
     pub withdrawn: u32,
 }
 
-#[derive(Drop)]
+#[derive(Clone, Copy)]
 pub enum Counts {
     Counted(Tally),
     // The refusal's number.
@@ -24,7 +24,7 @@ pub enum Counts {
 }
 
 // The highest r, the lowest r and r at the peak.
-#[derive(Drop)]
+#[derive(Clone, Copy)]
 pub struct Extremes {
     pub highest: i64,
     pub lowest: i64,
@@ -32,14 +32,14 @@ pub struct Extremes {
 }
 
 // Each over (P+1)·n, n periods standing.
-#[derive(Drop)]
+#[derive(Clone, Copy)]
 pub struct Levels {
     pub highest: f64,
     pub lowest: f64,
     pub peak: f64,
 }
 
-#[derive(Drop)]
+#[derive(Clone, Copy)]
 pub enum Summary {
     Nothing,
     Measured(Levels),

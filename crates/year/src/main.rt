@@ -27,7 +27,7 @@ pub const HIGHEST: i32 = 8388607;
 pub type Store = [i32; STORE];
 
 // A campaign's record with all else that its calls are lent: the sums, the recording at hand, and the rooms for an answer.
-#[derive(Drop)]
+#[derive(Clone, Copy)]
 pub struct Held {
     pub campaign: Campaign,
     pub sums: [i64; PLACES],
@@ -39,7 +39,7 @@ pub struct Held {
 }
 
 // A campaign to drive: `lag` is how many visits after its own a day is withdrawn, `most` how many periods its captures have at the most.
-#[derive(Drop)]
+#[derive(Clone, Copy)]
 pub struct Plan {
     pub order: u32,
     pub taps: u32,

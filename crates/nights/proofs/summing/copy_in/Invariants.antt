@@ -1,0 +1,16 @@
+-- `nights::summing::copy_in` meets its contract: after j turns the first j samples are those passed. Assumes nothing.
+use mathlib.Core.Path.{◌≡◌}
+use Prim.Native.Nat.{◌≤◌, ◌-◌}
+use native.Mathlib.Omega.{arith}
+use lib.ListN.{length}
+use mir.Syntax.{w32}
+use Rattle.sums.specs.Lists.{at}
+use Rattle.sums.proofs.Bound.{read}
+use Rattle.sums.proofs.Tables.{Written, written_none, written_more, written_length}
+use Rattle.nights.proofs.summing.copy_in.Given as goal
+
+abbrev pub invariant-loop-j : goal.invariant-loop-j
+invariant-loop-j l = (l.j ≤ length l.part) × Written l.j (at l.part) l.initial.row l.row
+
+abbrev pub decreases-loop-j : goal.decreases-loop-j
+decreases-loop-j l = length l.part - l.j

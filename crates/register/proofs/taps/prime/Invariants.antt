@@ -1,0 +1,14 @@
+-- `register::taps::prime` meets its contract: no number passed divides q. Assumes nothing.
+use mathlib.Core.Path.{◌≡◌, sym, ap, ◌∙◌}
+use Prim.Native.Nat.{ℕ, ◌-◌, ◌*◌, ◌%◌, ◌≤◌, ◌<◌}
+use native.Mathlib.Nat.{mul-le-mul}
+use native.Mathlib.Decide.{ℕ_discrete}
+use native.Mathlib.Omega.{arith}
+use Rattle.register.proofs.Factors.{root_below, prime-one, not_prime, by_root}
+use Rattle.register.proofs.taps.prime.Given as goal
+
+abbrev pub invariant-loop-e : goal.invariant-loop-e
+invariant-loop-e l = (2 ≤ l.e) × (l.e ≤ 256) × ((k : ℕ) → 2 ≤ k → k < l.e → l.q % k ≡ 0 → ⊥)
+
+abbrev pub decreases-loop-e : goal.decreases-loop-e
+decreases-loop-e l = 256 - l.e

@@ -1,0 +1,19 @@
+-- `rounding::means::write_each` meets its contract: after k turns the first k means are written. Assumes nothing.
+use mathlib.Core.Path.{◌≡◌, ◌∙◌}
+use Prim.Native.Nat.{◌-◌, ◌≤◌}
+use native.Mathlib.Omega.{arith}
+use mir.Syntax.{w32, w64}
+use mir.Val.{SFits}
+use mir.Facts.{to_z-of_z}
+use Rattle.sums.specs.Lists.{at}
+use Rattle.sums.proofs.Bound.{read}
+use Rattle.sums.proofs.Tables.{Written, written_none, written_more, written_length}
+use Rattle.rounding.specs.Rounding.{rounded}
+use Rattle.samples.proofs.Sizes.{sample_fits}
+use Rattle.rounding.proofs.means.write_each.Given as goal
+
+abbrev pub invariant-loop-k : goal.invariant-loop-k
+invariant-loop-k l = (l.k ≤ l.period) × Written l.k (λ i. rounded l.edition (at l.r i) l.divisor) l.initial.out l.out
+
+abbrev pub decreases-loop-k : goal.decreases-loop-k
+decreases-loop-k l = l.period - l.k

@@ -1,0 +1,32 @@
+-- `rounding::means::write_means` meets its contract: a divisor that is few times a power of two has its reciprocal. Assumes nothing.
+use borrow.Author.Rules.{rules}
+use mathlib.Core.Path.{sym, ◌∙◌}
+use native.Mathlib.Omega.{arith}
+use borrow.Author.Tests.{eqb-true, leb-true}
+use lib.Dec.{eqb, leb}
+use Rattle.sums.proofs.Everywhere.{and-true}
+use Rattle.rounding.proofs.Reciprocal.{rest_some, split, split_few}
+use Rattle.rounding.proofs.means.write_means.Goals as goal
+
+pub write_each-requires-clause-period_in_bounds : goal.write_each-requires-clause-period_in_bounds
+write_each-requires-clause-period_in_bounds c =
+    let p = c.requires in
+    let a = c.args in
+    let r = c.halve-h.result in
+    let e = c.reciprocal.ensures in ((
+        p.0.0,
+        p.0.1,
+        p.0.2,
+        λ n. rw e (split a.divisor r.rest r.times c.halve-h.ensures.0 p.0.2 c.halve-h.ensures.1 (λ z. n (e ∙ z))),
+      ))
+
+pub write_each-requires-clause-edition_value : goal.write_each-requires-clause-edition_value
+write_each-requires-clause-edition_value c =
+    let p = c.requires in
+    let a = c.args in
+    let r = c.halve-h.result in
+    let e = c.reciprocal.ensures in (λ t.
+            let two = and-true (eqb a.edition 2) (leb r.rest 255) (sym c.may_raise.ensures ∙ t) in (
+              eqb-true a.edition 2 two.0,
+              rw e (split_few a.divisor r.rest r.times c.halve-h.ensures.0 p.0.2 255 (omega arith) (leb-true r.rest 255 two.1) c.halve-h.ensures.1),
+            ))
