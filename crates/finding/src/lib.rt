@@ -1,4 +1,6 @@
 // What a recording is found to be before anything is kept: overloaded, dead or kept.
+#![tactic(auto)]
+
 pub mod looking;
 pub mod rails;
 mod spread;

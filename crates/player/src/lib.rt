@@ -1,4 +1,6 @@
 // The player of a register's sequence, one sign at each sample clock.
+#![tactic(auto)]
+
 pub mod clock;
 
 // What the sample clock steps: the window's bit 0 goes out next; the count runs modulo 2^32.

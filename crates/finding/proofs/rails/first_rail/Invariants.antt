@@ -1,0 +1,26 @@
+-- `finding::rails::first_rail` meets its contract: the first place at a rail lies ahead. Assumes nothing.
+use mathlib.Core.Path.{◌≡◌, refl, sym, ap, ◌∙◌}
+use mathlib.Core.Bool.{Bool, cond}
+use mathlib.Core.List.{List}
+use Prim.Native.Nat.{ℕ, ◌-◌, ◌≤◌, ◌<◌}
+use native.Mathlib.Omega.{arith}
+use borrow.Author.Tests.{lt-ltb, le-ltb}
+use lib.IntN.{ℤ}
+use lib.ListN.{length}
+use mir.Syntax.{w32}
+use Rattle.sums.specs.Lists.{at}
+use Rattle.sums.proofs.Bound.{read}
+use Rattle.samples.specs.Samples.{rail}
+use Rattle.finding.specs.Finding.{rail_place, rail_of}
+use Rattle.finding.specs.declared.Rail.TheVariants as scan
+use Rattle.sums.proofs.Seek.{Ahead, ahead_none, ahead_more, ahead_here, ahead_end}
+use Rattle.finding.proofs.rails.first_rail.Given as goal
+
+abbrev pub test : List ℤ → ℕ → Bool
+test y j = rail (at y j)
+
+abbrev pub invariant-loop-j : goal.invariant-loop-j
+invariant-loop-j l = (l.j ≤ length l.y) × (l.n ≡ length l.y) × Ahead (test l.y) (length l.y) l.j
+
+abbrev pub decreases-loop-j : goal.decreases-loop-j
+decreases-loop-j l = length l.y - l.j
