@@ -6,35 +6,35 @@ use Rattle.defaults.proofs.taps.default_taps.Goals as goal
 
 pub returns-in-5 : goal.returns-in-5
 unfolding default_outcome
-returns-in-5 c = ⊎_elim (λ e. rw e) (λ e. rw e) c.in-2.keys2
+returns-in-5 c = ⊎_elim (λ e. rw e) (λ e. rw e) c.in-5.keys2
 
 pub returns-in-8 : goal.returns-in-8
 unfolding default_outcome
-returns-in-8 c = rw c.in-2.keys3
+returns-in-8 c = rw c.in-8.keys3
 
 pub returns-in-9 : goal.returns-in-9
 unfolding default_outcome
-returns-in-9 c = rw c.in-2.keys4
+returns-in-9 c = rw c.in-9.keys4
 
 pub returns-in-10 : goal.returns-in-10
 unfolding default_outcome
-returns-in-10 c = rw c.in-2.keys5
+returns-in-10 c = rw c.in-10.keys5
 
 pub returns-in-12 : goal.returns-in-12
 unfolding default_outcome
-returns-in-12 c = rw c.in-2.keys6
+returns-in-12 c = rw c.in-12.keys6
 
 pub returns-in-13 : goal.returns-in-13
 unfolding default_outcome
-returns-in-13 c = rw c.in-2.keys7
+returns-in-13 c = rw c.in-13.keys7
 
 pub returns-in-14 : goal.returns-in-14
 unfolding default_outcome
-returns-in-14 c = rw c.in-2.keys8
+returns-in-14 c = rw c.in-14.keys8
 
 pub returns-in-16 : goal.returns-in-16
 unfolding default_outcome
-returns-in-16 c = rw c.in-2.keys9
+returns-in-16 c = rw c.in-16.keys9
 
 pub returns-in_default : goal.returns-in_default
 unfolding default_outcome
@@ -43,7 +43,7 @@ returns-in_default c = below _ c.if-order-lt2.true
 pub returns-in_default-2 : goal.returns-in_default-2
 unfolding default_outcome
 returns-in_default-2 c =
-    let r = c.in-2.rest in
+    let r = c.in_default-1.rest in
     let n = c.args.order in
     above n
     (past 16
@@ -72,4 +72,4 @@ returns-in-2 c = rw c.in-2.keys1
 pub returns-in-2-2 : goal.returns-in-2-2
 unfolding default_outcome
 returns-in-2-2 c =
-    within _ c.if-order-lt2.false c.if-order-lt8.true (λ e. c.in-2.rest.0.0.0.0.0.0.0.1 (inl e))
+    within _ c.if-order-lt2.false c.if-order-lt8.true (λ e. c.in_default-1.rest.0.0.0.0.0.0.0.1 (inl e))
