@@ -18,9 +18,9 @@ use Rattle.records.specs.Record.{together}
 use Rattle.judging.specs.Judging.{judge_outcome}
 use Rattle.campaign.specs.Calls.{start_outcome, file_outcome, withdraw_outcome}
 use Rattle.trend.specs.Calls.{counts_outcome, response_outcome}
-use Rattle.log.specs.Log.{decoded}
+use Rattle.logitems.specs.Log.{decoded}
 use Rattle.report.specs.Lines.{digits}
-use Rattle.logbook.specs.Book.{began_outcome, entered_outcome, applied}
+use Rattle.logeffects.specs.Book.{began_outcome, entered_outcome, applied}
 use Rattle.logprogram.specs.Program.{rows_bytes, turn, output, log_output}
 
 -- order 3, taps 3, 2 slots; day 1 with -4,-12,-4,12,12,-12,4; day 2 with seven 5s; ask; withdraw 1; ask

@@ -8,9 +8,9 @@ use lib.IntN.{ℤ}
 use Rattle.sums.specs.Lists as lists
 use Rattle.report.specs.Lines.{row_bytes, Wrote}
 use Rattle.report.proofs.Writing.{wrote_none, wrote_more}
-use Rattle.logbook.specs.Book.{Memory}
-use Rattle.logbook.specs.declared.Applied.{Applied}
-use Rattle.log.specs.Phases.{goes_on}
+use Rattle.logeffects.specs.Book.{Memory}
+use Rattle.logeffects.specs.declared.Applied.{Applied}
+use Rattle.logitems.specs.Phases.{goes_on}
 use Rattle.logprogram.specs.Program.{Turn, rows_bytes, printed, took}
 
 pub rows_none : (r mean : List ℤ) (at : ℕ) (l : List ℕ) → Wrote (rows_bytes 0 r mean) at l at l

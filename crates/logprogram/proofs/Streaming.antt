@@ -8,12 +8,12 @@ use native.Mathlib.Omega.{arith}
 use lib.Dec.{T}
 use lib.ListN.{length, drop, length-append, length-drop}
 use lib.Seq.{drop-append-le}
-use Rattle.log.specs.declared.Found.{Found}
-use Rattle.log.specs.declared.Found.TheVariants as found
-use Rattle.log.proofs.Finding.{whole, short, bad, end}
-use Rattle.log.proofs.Standing.{settled}
+use Rattle.logitems.specs.declared.Found.{Found}
+use Rattle.logitems.specs.declared.Found.TheVariants as found
+use Rattle.logitems.proofs.Finding.{whole, short, bad, end}
+use Rattle.logitems.proofs.Standing.{settled}
 use Rattle.report.specs.Lines.{bad_bytes}
-use Rattle.logbook.specs.Book.{day_length}
+use Rattle.logeffects.specs.Book.{day_length}
 use Rattle.logprogram.specs.Program.{Place, Turn, stopped, turn_on, stands_at, output, log_output}
 use Rattle.logprogram.specs.Reads.{given, Midway, outset, next, passed, fed, Ran, begun, taken, more, most_turns}
 use Rattle.logprogram.proofs.Turns.{StandsAt, found_at, turns, output_off, output_on, then}

@@ -6,12 +6,12 @@ use Prim.Native.Nat.{ℕ, zero, suc, ◌+◌, ◌≤◌, ◌<◌}
 use native.Mathlib.Omega.{arith}
 use lib.Dec.{T}
 use lib.ListN.{length, drop, length-drop}
-use Rattle.log.specs.declared.Phase.{Phase}
-use Rattle.log.specs.declared.Found.{Found}
-use Rattle.log.specs.declared.Found.TheVariants as found
-use Rattle.log.proofs.Finding.{Stands, whole, short, bad, end, stands}
+use Rattle.logitems.specs.declared.Phase.{Phase}
+use Rattle.logitems.specs.declared.Found.{Found}
+use Rattle.logitems.specs.declared.Found.TheVariants as found
+use Rattle.logitems.proofs.Finding.{Stands, whole, short, bad, end, stands}
 use Rattle.report.specs.Lines.{bad_bytes}
-use Rattle.logbook.specs.Book.{day_length}
+use Rattle.logeffects.specs.Book.{day_length}
 use Rattle.logprogram.specs.Program.{Place, Turn, stopped, turn_on, stands_at, turn, output}
 
 -- ---- a turn

@@ -3,14 +3,14 @@
 -- follow each other. Assumes nothing.
 use Rattle.std.specs.Prelude.{List, [], ◌++◌, Bool, true, false, ℕ, zero, suc, ◌+◌, ℤ, pos, length, take, drop, replicate}
 use Rattle.sums.specs.Lists.{at}
-use Rattle.log.specs.Phases.{goes_on}
-use Rattle.log.specs.Log.{decoded}
-use Rattle.log.specs.declared.Found.{Found}
-use Rattle.log.specs.declared.Found.TheVariants as found
+use Rattle.logitems.specs.Phases.{goes_on}
+use Rattle.logitems.specs.Log.{decoded}
+use Rattle.logitems.specs.declared.Found.{Found}
+use Rattle.logitems.specs.declared.Found.TheVariants as found
 use Rattle.report.specs.Lines.{line_bytes, row_bytes, bad_bytes}
-use Rattle.logbook.specs.Book.{Memory, memory, unbegun_book, day_length, applied}
-use Rattle.logbook.specs.declared.Book.{Book}
-use Rattle.logbook.specs.declared.Applied.{Applied}
+use Rattle.logeffects.specs.Book.{Memory, memory, unbegun_book, day_length, applied}
+use Rattle.logeffects.specs.declared.Book.{Book}
+use Rattle.logeffects.specs.declared.Applied.{Applied}
 use Rattle.logprogram.specs.declared.Bookmark.{Bookmark}
 use Rattle.logprogram.specs.declared.Turned.{Turned}
 

@@ -2,7 +2,7 @@
 pub mod turning;
 pub mod writing;
 
-use logbook::Book;
+use logeffects::Book;
 
 // Where the program stands, beside the memory lent.
 #[derive(Clone, Copy)]

@@ -1,17 +1,17 @@
 // One turn of the program: what stands at its place, done to the memory lent, and its text.
 ghost use Rattle.std.specs.Prelude.{◌≡◌, true, ◌^◌, ◌≤◌, ◌<◌, length};
-ghost use Rattle.log.specs.Phases.{may_stand};
-ghost use Rattle.log.specs.Log.{kind_of};
-ghost use Rattle.log.specs.declared.Found.TheVariants.{Bad};
-ghost use Rattle.logbook.specs.Book.{Memory, memory, day_length, applied};
+ghost use Rattle.logitems.specs.Phases.{may_stand};
+ghost use Rattle.logitems.specs.Log.{kind_of};
+ghost use Rattle.logitems.specs.declared.Found.TheVariants.{Bad};
+ghost use Rattle.logeffects.specs.Book.{Memory, memory, day_length, applied};
 ghost use Rattle.logprogram.specs.Program.{first_memory, first_place, took, turn_on, turn, place_of, stopped_mark, turn_of};
 
 use crate::writing::{write_bad, write_lines};
 use crate::{Bookmark, Turned};
-use log::decoding::decode;
-use log::phases::goes_on;
-use log::{Found, Item};
-use logbook::applying::{apply, day_length, unbegun};
+use logitems::decoding::decode;
+use logitems::phases::goes_on;
+use logitems::{Found, Item};
+use logeffects::applying::{apply, day_length, unbegun};
 
 // Before the first item.
 pub fn first_mark() -> Bookmark

@@ -18,15 +18,15 @@ use Rattle.campaign.specs.Calls.{start_outcome, file_outcome, withdraw_outcome, 
 use Rattle.trend.specs.Calls.{response_outcome}
 use Rattle.campaign.proofs.Handed.{file_handed, withdraw_handed, start_edition}
 use Rattle.history.proofs.History.{if_alike}
-use Rattle.log.specs.declared.Phase.{Phase}
-use Rattle.log.specs.declared.Phase.TheVariants as phase
-use Rattle.log.specs.declared.Item.{Item}
-use Rattle.log.specs.declared.Item.TheVariants as item
-use Rattle.log.specs.declared.Found.{Found}
-use Rattle.log.specs.declared.Found.TheVariants as found
-use Rattle.logbook.specs.Book.{Memory, log_start_checks, over, started_by, began_outcome, log_enter_checks, entered_outcome, closed_outcome, applied}
-use Rattle.logbook.specs.declared.Book.{Book}
-use Rattle.logbook.specs.declared.Applied.{Applied}
+use Rattle.logitems.specs.declared.Phase.{Phase}
+use Rattle.logitems.specs.declared.Phase.TheVariants as phase
+use Rattle.logitems.specs.declared.Item.{Item}
+use Rattle.logitems.specs.declared.Item.TheVariants as item
+use Rattle.logitems.specs.declared.Found.{Found}
+use Rattle.logitems.specs.declared.Found.TheVariants as found
+use Rattle.logeffects.specs.Book.{Memory, log_start_checks, over, started_by, began_outcome, log_enter_checks, entered_outcome, closed_outcome, applied}
+use Rattle.logeffects.specs.declared.Book.{Book}
+use Rattle.logeffects.specs.declared.Applied.{Applied}
 use Rattle.logprogram.specs.Program.{Place, turn_on, stands_at}
 use Rattle.logprogram.proofs.Turns.{turns}
 use Rattle.logruns.specs.Calls.{line_number, asks_edition, edition_at, Reached, onward, reached}

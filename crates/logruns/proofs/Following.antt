@@ -31,16 +31,16 @@ use Rattle.history.specs.Run as run_of
 use Rattle.history.proofs.UnderWay.{stays_under_way, same_campaign, started, started_campaign}
 use Rattle.history.proofs.History.{says}
 use Rattle.history.proofs.Answers.{RoomFor, responded}
-use Rattle.log.specs.declared.Phase.{Phase}
-use Rattle.log.specs.declared.Phase.TheVariants as phase
-use Rattle.log.specs.declared.Item.{Item}
-use Rattle.log.specs.declared.Found.{Found}
-use Rattle.log.specs.declared.Found.TheVariants as found
-use Rattle.log.proofs.Finding.{Fits, starts, editions, opens, captures, withdraws, asks, samples, enters, whole, bad, end}
-use Rattle.logbook.specs.Book.{Memory, day_length, log_start_checks, over, started_by, began_outcome, unheld, log_enter_checks, judged_then_filed, entered_by, entered_outcome, filing, applied}
-use Rattle.logbook.specs.declared.Applied.{Applied}
-use Rattle.logbook.proofs.Starts as starting
-use Rattle.logbook.proofs.Held.{passed_held}
+use Rattle.logitems.specs.declared.Phase.{Phase}
+use Rattle.logitems.specs.declared.Phase.TheVariants as phase
+use Rattle.logitems.specs.declared.Item.{Item}
+use Rattle.logitems.specs.declared.Found.{Found}
+use Rattle.logitems.specs.declared.Found.TheVariants as found
+use Rattle.logitems.proofs.Finding.{Fits, starts, editions, opens, captures, withdraws, asks, samples, enters, whole, bad, end}
+use Rattle.logeffects.specs.Book.{Memory, day_length, log_start_checks, over, started_by, began_outcome, unheld, log_enter_checks, judged_then_filed, entered_by, entered_outcome, filing, applied}
+use Rattle.logeffects.specs.declared.Applied.{Applied}
+use Rattle.logeffects.proofs.Starts as starting
+use Rattle.logeffects.proofs.Held.{passed_held}
 use Rattle.logprogram.specs.Program.{Place, zeros, first_memory, turn_on, stands_at}
 use Rattle.logprogram.proofs.Turns.{StandsAt, found_at, turns}
 use Rattle.logruns.specs.Calls.{pair, first_world, calls_of, calls_at, Reached, onward, reached}

@@ -5,9 +5,9 @@ use mathlib.Core.List.{List, ◌++◌, append_assoc}
 use Prim.Native.Nat.{ℕ, zero, suc, ◌+◌}
 use native.Mathlib.Omega.{arith}
 use lib.ListN.{length, drop, length-drop}
-use Rattle.log.specs.declared.Phase.{Phase}
-use Rattle.log.specs.declared.Found.{Found}
-use Rattle.log.proofs.Finding.{Stands, whole, short, bad, end}
+use Rattle.logitems.specs.declared.Phase.{Phase}
+use Rattle.logitems.specs.declared.Found.{Found}
+use Rattle.logitems.proofs.Finding.{Stands, whole, short, bad, end}
 use Rattle.logprogram.specs.Program.{Place, first_place, turn_on, stands_at, output, log_output}
 use Rattle.logprogram.proofs.Turns.{StandsAt, found_at, turns, output_off, output_on, output_any}
 use Rattle.logruns.specs.Calls.{Reached, onward, reached}

@@ -39,20 +39,20 @@ use Rattle.trend.specs.declared.Tally.{Tally}
 use Rattle.history.specs.Run.{World, Call, enter, withdraw, response, answer, begun, made, heard}
 use Rattle.history.proofs.Answers.{RoomFor}
 use Rattle.history.proofs.EveryRun as every
-use Rattle.log.specs.Phases.{after_other}
-use Rattle.log.specs.declared.Phase.{Phase}
-use Rattle.log.specs.declared.Phase.TheVariants as phase
-use Rattle.log.specs.declared.Item.{Item}
-use Rattle.log.specs.declared.Item.TheVariants as item
-use Rattle.log.specs.declared.Found.TheVariants as found
-use Rattle.log.proofs.Finding.{Fits, starts, editions, opens, captures, withdraws, asks, samples, enters, whole_fits}
+use Rattle.logitems.specs.Phases.{after_other}
+use Rattle.logitems.specs.declared.Phase.{Phase}
+use Rattle.logitems.specs.declared.Phase.TheVariants as phase
+use Rattle.logitems.specs.declared.Item.{Item}
+use Rattle.logitems.specs.declared.Item.TheVariants as item
+use Rattle.logitems.specs.declared.Found.TheVariants as found
+use Rattle.logitems.proofs.Finding.{Fits, starts, editions, opens, captures, withdraws, asks, samples, enters, whole_fits}
 use Rattle.report.specs.Lines.{digits, spaced, line_end, start_line, edition_line, line_bytes, response_line}
 use Rattle.report.specs.declared.Line.TheVariants as line
-use Rattle.logbook.specs.Book.{Memory, log_start_checks, day_length, unheld, log_enter_checks, entered_by, entered_outcome, closed_outcome, tallied, filing, applied}
-use Rattle.logbook.specs.declared.Applied.{Applied}
-use Rattle.logbook.proofs.Rows.{start_few}
-use Rattle.logbook.proofs.Starts.{never_six}
-use Rattle.logbook.proofs.Held.{held_passes, unheld_refused, unkept_answer, unkept_refused, refusing, unkept_entry, kept_entry}
+use Rattle.logeffects.specs.Book.{Memory, log_start_checks, day_length, unheld, log_enter_checks, entered_by, entered_outcome, closed_outcome, tallied, filing, applied}
+use Rattle.logeffects.specs.declared.Applied.{Applied}
+use Rattle.logeffects.proofs.Rows.{start_few}
+use Rattle.logeffects.proofs.Starts.{never_six}
+use Rattle.logeffects.proofs.Held.{held_passes, unheld_refused, unkept_answer, unkept_refused, refusing, unkept_entry, kept_entry}
 use Rattle.logprogram.specs.Program.{Place, first_memory, rows_bytes, printed, took, turn_on, stands_at, turn}
 use Rattle.logprogram.proofs.Turns.{found_at, turns}
 use Rattle.logruns.specs.Calls.{world_of, first_world, pair, entry, calls_at, line_number, onward, reached}

@@ -17,15 +17,15 @@ use Rattle.nights.specs.Nights.{periods_of}
 use Rattle.nights.specs.declared.Night.{Night}
 use Rattle.records.specs.declared.Campaign.{Campaign}
 use Rattle.campaign.specs.Calls.{start_outcome}
-use Rattle.log.specs.declared.Phase.{Phase}
-use Rattle.log.specs.declared.Phase.TheVariants as phase
-use Rattle.log.specs.declared.Item.{Item}
-use Rattle.log.specs.declared.Found.{Found}
-use Rattle.log.proofs.Finding.{Fits, starts, editions, opens, captures, withdraws, asks, samples, enters, whole, bad, end}
-use Rattle.logbook.specs.Book.{Memory, log_start_checks, over, started_by, began_outcome, unheld, kept_sample, log_enter_checks, entered_outcome, applied}
-use Rattle.logbook.specs.declared.Applied.{Applied}
-use Rattle.logbook.proofs.Rows.{day_short}
-use Rattle.logbook.proofs.Held.{held_short}
+use Rattle.logitems.specs.declared.Phase.{Phase}
+use Rattle.logitems.specs.declared.Phase.TheVariants as phase
+use Rattle.logitems.specs.declared.Item.{Item}
+use Rattle.logitems.specs.declared.Found.{Found}
+use Rattle.logitems.proofs.Finding.{Fits, starts, editions, opens, captures, withdraws, asks, samples, enters, whole, bad, end}
+use Rattle.logeffects.specs.Book.{Memory, log_start_checks, over, started_by, began_outcome, unheld, kept_sample, log_enter_checks, entered_outcome, applied}
+use Rattle.logeffects.specs.declared.Applied.{Applied}
+use Rattle.logeffects.proofs.Rows.{day_short}
+use Rattle.logeffects.proofs.Held.{held_short}
 use Rattle.logprogram.specs.Program.{Place, turn_on, stands_at}
 use Rattle.logprogram.proofs.Turns.{StandsAt, found_at, turns}
 use Rattle.logruns.specs.Calls.{samples_of, samples_at, Reached, onward, reached}

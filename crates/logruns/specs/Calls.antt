@@ -8,15 +8,15 @@ use Rattle.judging.specs.Judging.{judging}
 use Rattle.records.specs.declared.Campaign.{Campaign}
 use Rattle.campaign.specs.Calls.{handed, verdict_number}
 use Rattle.history.specs.Run.{World, Call, start, judge, file, withdraw, counts, response}
-use Rattle.log.specs.declared.Phase.{Phase}
-use Rattle.log.specs.declared.Phase.TheVariants as phase
-use Rattle.log.specs.declared.Item.{Item}
-use Rattle.log.specs.declared.Item.TheVariants as item
-use Rattle.log.specs.declared.Found.{Found}
-use Rattle.log.specs.declared.Found.TheVariants as found
+use Rattle.logitems.specs.declared.Phase.{Phase}
+use Rattle.logitems.specs.declared.Phase.TheVariants as phase
+use Rattle.logitems.specs.declared.Item.{Item}
+use Rattle.logitems.specs.declared.Item.TheVariants as item
+use Rattle.logitems.specs.declared.Found.{Found}
+use Rattle.logitems.specs.declared.Found.TheVariants as found
 use Rattle.report.specs.declared.Line.{Line}
 use Rattle.report.specs.declared.Line.TheVariants as line
-use Rattle.logbook.specs.Book.{log_start_checks, log_enter_checks, applied}
+use Rattle.logeffects.specs.Book.{log_start_checks, log_enter_checks, applied}
 use Rattle.logprogram.specs.Program.{Place, first_place, stands_at, turn}
 
 -- the record and the memory that the campaign's calls are given

@@ -7,12 +7,12 @@ use native.Mathlib.Omega.{arith}
 use lib.Dec.{T}
 use lib.ListN.{length, drop, length-drop}
 use lib.Seq.{length-take-le}
-use Rattle.log.specs.Phases.{goes_on}
-use Rattle.log.specs.declared.Item.{Item}
-use Rattle.log.specs.declared.Found.{Found}
-use Rattle.log.specs.declared.Found.TheVariants as found
-use Rattle.log.proofs.Finding.{whole, short, bad, end}
-use Rattle.logbook.specs.Book.{Memory}
+use Rattle.logitems.specs.Phases.{goes_on}
+use Rattle.logitems.specs.declared.Item.{Item}
+use Rattle.logitems.specs.declared.Found.{Found}
+use Rattle.logitems.specs.declared.Found.TheVariants as found
+use Rattle.logitems.proofs.Finding.{whole, short, bad, end}
+use Rattle.logeffects.specs.Book.{Memory}
 use Rattle.logprogram.specs.Program.{Place, turn_on, stands_at, turn}
 use Rattle.logprogram.specs.Reads.{Midway, passed, Ran, begun, taken, more}
 use Rattle.logprogram.proofs.Turns.{StandsAt, found_at}

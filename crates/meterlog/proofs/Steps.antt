@@ -9,7 +9,7 @@ use lib.Dec.{T, eqb}
 use lib.IntN.{pos}
 use lib.ListN.{length, drop}
 use lib.Signed.{lt_z}
-use Rattle.logbook.specs.Book.{Memory}
+use Rattle.logeffects.specs.Book.{Memory}
 use Rattle.logprogram.specs.Program.{Turn, first_memory, first_place, place_of, turn_of}
 use Rattle.logprogram.specs.Reads.{Midway, next, passed, fed, halted, Ran, begun, most_turns}
 use Rattle.logprogram.specs.Reads as runs

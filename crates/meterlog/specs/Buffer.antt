@@ -1,7 +1,7 @@
 -- The log program's state in its buffer, and what a turn does to it, reads and writes that fail included. Assumes nothing.
 use Rattle.std.specs.Prelude.{◌≡◌, Bool, true, false, not, ◌⊎◌, List, ◌++◌, ℕ, ◌+◌, ◌-◌, ◌≤◌, eqb, ℤ, pos, length, take, drop}
 use Rattle.std.specs.Int.Signed.{lt_z}
-use Rattle.logbook.specs.Book.{Memory}
+use Rattle.logeffects.specs.Book.{Memory}
 use Rattle.logprogram.specs.Program.{place_of, stopped_mark}
 use Rattle.logprogram.specs.Reads.{Midway, next, passed, fed, halted, Ran, most_turns}
 use Rattle.logprogram.specs.declared.Turned.{Turned}

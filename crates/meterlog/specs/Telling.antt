@@ -1,7 +1,7 @@
 -- What is said on standard error once the log program has stopped. Assumes nothing.
 use Rattle.std.specs.Prelude.{cond, ◌&&◌, ℕ, ◌-◌, eqb}
-use Rattle.log.specs.Phases.{may_end, goes_on}
-use Rattle.log.specs.declared.Phase.{Phase}
+use Rattle.logitems.specs.Phases.{may_end, goes_on}
+use Rattle.logitems.specs.declared.Phase.{Phase}
 use Rattle.meterlog.specs.declared.Progress.{Progress}
 use Rattle.meterlog.specs.declared.Failed.{Failed}
 use Rattle.meterlog.specs.declared.Failed.TheVariants.{Nothing, Writing, Reading}

@@ -2,13 +2,13 @@
 // No contract can say what is read or written, so a function that reads or writes decides nothing: what its answer leads to is a function of
 // that answer.
 ghost use Rattle.std.specs.Prelude.{◌≡◌, cond, ◌+◌, ◌-◌, ◌^◌, ◌≤◌, ◌<◌, length};
-ghost use Rattle.logbook.specs.Book.{memory};
+ghost use Rattle.logeffects.specs.Book.{memory};
 ghost use Rattle.logprogram.specs.Program.{first_memory};
 ghost use Rattle.meterlog.specs.Buffer.{midway, Inside, stopping, after_write, after_read, Refilled, Stepped, Ended};
 
 use crate::{Failed, Progress};
 use libc::{STDERR_FILENO, STDIN_FILENO, STDOUT_FILENO};
-use log::feeding::to_front;
+use logitems::feeding::to_front;
 use logprogram::Turned;
 use logprogram::turning::{bad, first_mark, stop, take_turn};
 

@@ -4,8 +4,8 @@ ghost use Rattle.meterlog.specs.Telling.{word_at, word_for};
 
 use crate::{Failed, Progress, Word};
 use libc::STDERR_FILENO;
-use log::Phase;
-use log::phases::{goes_on, may_end};
+use logitems::Phase;
+use logitems::phases::{goes_on, may_end};
 
 // Where the program stopped by itself: the phase there, and how many bytes it read and did not take.
 fn word_at(phase: Phase, left: usize) -> Word

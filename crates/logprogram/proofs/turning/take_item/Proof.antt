@@ -4,9 +4,9 @@ use Prim.Native.Nat.{◌≤◌}
 use native.Mathlib.Omega.{arith}
 use borrow.Author.Rules.{rules}
 use Rattle.report.proofs.Writing.{wrote_inside}
-use Rattle.logbook.specs.Book.{Memory, memory}
-use Rattle.logbook.specs.declared.Applied.{Applied}
-use Rattle.logbook.proofs.Rows.{rows_few}
+use Rattle.logeffects.specs.Book.{Memory, memory}
+use Rattle.logeffects.specs.declared.Applied.{Applied}
+use Rattle.logeffects.proofs.Rows.{rows_few}
 use Rattle.logprogram.proofs.Rows.{took-made}
 use Rattle.logprogram.proofs.turning.take_item.Statement.{statement}
 use Rattle.logprogram.proofs.turning.take_item.Tie as tie

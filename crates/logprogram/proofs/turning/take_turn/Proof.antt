@@ -2,11 +2,11 @@
 use mathlib.Core.Path.{◌≡◌, sym, ap, subst, ◌∙◌}
 use native.Mathlib.Omega.{arith}
 use borrow.Author.Rules.{rules}
-use Rattle.log.specs.Log.{decoded}
-use Rattle.log.specs.declared.Found.{Found}
-use Rattle.log.specs.declared.Found.TheVariants as found
-use Rattle.log.proofs.Finding.{fits_kind, whole_size, whole_fits}
-use Rattle.logbook.specs.Book.{memory}
+use Rattle.logitems.specs.Log.{decoded}
+use Rattle.logitems.specs.declared.Found.{Found}
+use Rattle.logitems.specs.declared.Found.TheVariants as found
+use Rattle.logitems.proofs.Finding.{fits_kind, whole_size, whole_fits}
+use Rattle.logeffects.specs.Book.{memory}
 use Rattle.logprogram.specs.Program.{Place, place_of, stands_at, turn_on, turn}
 use Rattle.logprogram.specs.declared.Turned.{Turned}
 use Rattle.logprogram.proofs.Turns.{StandsAt, found_at, turn_by}

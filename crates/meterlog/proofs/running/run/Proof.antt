@@ -8,7 +8,7 @@ use native.Mathlib.Omega.{arith}
 use lib.Dec.{T}
 use lib.IntN.{ℤ, pos}
 use lib.ListN.{length, length-replicate}
-use Rattle.logbook.specs.Book.{Memory, memory}
+use Rattle.logeffects.specs.Book.{Memory, memory}
 use Rattle.logprogram.specs.Program.{Place}
 use Rattle.logprogram.specs.Reads.{most_turns}
 use Rattle.meterlog.specs.Buffer.{midway, Inside}

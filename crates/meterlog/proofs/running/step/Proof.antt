@@ -6,7 +6,7 @@ use native.Mathlib.Omega.{arith}
 use borrow.Author.Rules.{rules}
 use lib.ListN.{length-take, length-drop}
 use lib.Seq.{length-take-le}
-use Rattle.logbook.specs.Book.{Memory, memory}
+use Rattle.logeffects.specs.Book.{Memory, memory}
 use Rattle.logprogram.specs.Program.{Turn, turn}
 use Rattle.logprogram.specs.Reads.{Midway}
 use Rattle.logprogram.proofs.Turns.{turn_bounded, short_idle, short_few}

@@ -3,7 +3,7 @@ use mathlib.Core.Path.{◌≡◌, sym, ◌∙◌}
 use mathlib.Core.Bool.{true}
 use borrow.Author.Rules.{rules}
 use borrow.Author.Tests.{eq-eqb, ne_eqb, not-true, not-false}
-use Rattle.log.specs.Phases.{goes_on}
+use Rattle.logitems.specs.Phases.{goes_on}
 use Rattle.meterlog.proofs.telling.word_at.Statement.{statement}
 use Rattle.meterlog.proofs.telling.word_at.Tie as tie
 

@@ -1,0 +1,16 @@
+-- `logeffects::applying::started_by` meets its contract. Assumes nothing.
+use borrow.Author.Rules.{rules}
+use Rattle.logeffects.proofs.applying.started_by.Statement.{statement}
+use Rattle.logeffects.proofs.applying.started_by.Tie as tie
+
+after-answer-requires : tie.Need-after-answer-requires
+after-answer-requires c κs = search rules
+
+say-requires : tie.Need-say-requires
+say-requires c κs = search rules
+
+returns : tie.Need-returns
+returns c = rw (c.say.ensures, c.before.after-answer.ensures)
+
+pub started-by-spec : {M : Type 1} → statement M
+started-by-spec = tie.close (tie.spec after-answer-requires say-requires returns)
