@@ -1,4 +1,6 @@
 // The log program: a campaign's log on standard input, its lines on standard output.
+#![tactic(auto)]
+
 mod running;
 mod telling;
 
