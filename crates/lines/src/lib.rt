@@ -1,3 +1,5 @@
 // The lines that a program prints: words, numbers, and one number for a long list.
+#![tactic(auto)]
+
 pub mod digest;
 pub mod print;

@@ -1,43 +1,48 @@
-// Words and numbers on standard output, each number after a space.
+// Words and numbers on the standard output that a program hands in, each number after a space. A write that fails is passed over, as it always was:
+// a line that is cut shows in the comparison of what was printed.
 use crate::digest::below_zero;
-use libc::STDOUT_FILENO;
 
-pub fn word(text: &[u8]) {
-    io::write_all(STDOUT_FILENO, text);
+pub fn word(rt: &impl Print, text: &[u8]) {
+    let _ = rt.write_all(text);
 }
 
-pub fn number(n: u64) {
-    word(b" ");
-    io::print_decimal(STDOUT_FILENO, n);
+// The digits alone.
+fn digits(rt: &impl Print, n: u64) {
+    let _ = print!(rt; "{n}");
 }
 
-pub fn signed(v: i64) {
+pub fn number(rt: &impl Print, n: u64) {
+    word(rt, b" ");
+    digits(rt, n);
+}
+
+pub fn signed(rt: &impl Print, v: i64) {
     if v < 0 {
-        word(b" -");
-        io::print_decimal(STDOUT_FILENO, below_zero(v) + 1);
+        word(rt, b" -");
+        digits(rt, below_zero(v) + 1);
     } else {
-        number(v as u64);
+        number(rt, v as u64);
     }
 }
 
 // The bits of a double as a number, and 0 for one that is no number.
-pub fn bits(x: f64) {
+pub fn bits(rt: &impl Print, x: f64) {
     if x == x {
-        number(f64::to_bits(x));
+        number(rt, f64::to_bits(x));
     } else {
-        number(0);
+        number(rt, 0);
     }
 }
 
-pub fn line_end() {
-    word(b"\n");
+pub fn line_end(rt: &impl Print) {
+    word(rt, b"\n");
 }
 
 // A word and three numbers.
-pub fn three(name: &[u8], a: u64, b: u64, c: u64) {
-    word(name);
-    number(a);
-    number(b);
-    number(c);
-    line_end();
+pub fn three(rt: &impl Print, name: &[u8], a: u64, b: u64, c: u64) {
+    word(rt, name);
+    number(rt, a);
+    number(rt, b);
+    number(rt, c);
+    line_end(rt);
 }

@@ -1,4 +1,6 @@
 // The log program: a campaign's log on standard input, its lines on standard output.
+#![tactic(auto)]
+
 mod running;
 mod telling;
 
@@ -35,6 +37,9 @@ pub enum Word {
     RefusedStart,
 }
 
+// The bytes that are at hand, and a turn's text.
+const BUFFER: usize = 65536;
+
 // The period of the largest order that the program takes, the longest night that it keeps, of five periods, its wide room, and the store of the
 // most slots.
 const PERIOD: usize = 511;
@@ -46,9 +51,9 @@ const ROOM: usize = 512;
 const STORE: usize = 4088;
 
 // All the memory there is: the campaign's, and for what is read and written.
-fn main() {
-    let mut bytes = io::large_buffer();
-    let mut out = io::large_buffer();
+fn main(rt: HostRuntime) {
+    let mut bytes: [u8; BUFFER] = [0; BUFFER];
+    let mut out: [u8; BUFFER] = [0; BUFFER];
     let mut store: [i32; STORE] = [0; STORE];
     let mut sums: [i64; PERIOD] = [0; PERIOD];
     let mut recording: [i32; NIGHT] = [0; NIGHT];
@@ -57,6 +62,7 @@ fn main() {
     let mut room: [i64; ROOM] = [0; ROOM];
     let mut tags: [u16; PERIOD] = [0; PERIOD];
     let p = run(
+        &rt,
         &mut bytes,
         &mut out,
         &mut store,
@@ -67,5 +73,5 @@ fn main() {
         &mut room,
         &mut tags,
     );
-    tell(word_for(p));
+    tell(&rt, word_for(p));
 }

@@ -7,10 +7,10 @@ ghost use Rattle.logprogram.specs.Program.{first_memory};
 ghost use Rattle.meterlog.specs.Buffer.{midway, Inside, stopping, after_write, after_read, Refilled, Stepped, Ended};
 
 use crate::{Failed, Progress};
-use libc::{STDERR_FILENO, STDIN_FILENO, STDOUT_FILENO};
 use logitems::feeding::to_front;
 use logprogram::Turned;
 use logprogram::turning::{bad, first_mark, stop, take_turn};
+use std::io::Read;
 
 // 2^60: a proved loop has to end, and nothing says that the input does.
 const MOST_TURNS: u64 = 1152921504606846976;
@@ -68,8 +68,24 @@ fn received(p: Progress, got: isize, n: usize) -> Progress
     next
 }
 
+// What one read answered: a number that is negative where it failed, and how many bytes came.
+#[derive(Clone, Copy)]
+struct Came {
+    got: isize,
+    n: usize,
+}
+
+fn read_once(rt: &impl Input, bytes: &mut [u8]) -> Came
+    ensures { result.n ≤ length bytes.new }
+{
+    match rt.reader().read(bytes) {
+        Ok(n) => Came { got: 0, n },
+        Err(_) => Came { got: -1, n: 0 },
+    }
+}
+
 // One read: the bytes at hand go to the front of the buffer, and more behind them, where there is room.
-fn refill(p: Progress, bytes: &mut [u8]) -> Progress
+fn refill(rt: &impl Input, p: Progress, bytes: &mut [u8]) -> Progress
     requires { Inside p bytes.old × (p.to - p.from < length bytes.old) }
     ensures { Refilled p bytes.old result bytes.new × Inside result bytes.new }
 {
@@ -77,13 +93,12 @@ fn refill(p: Progress, bytes: &mut [u8]) -> Progress
     let to = p.to;
     to_front(bytes, from, to);
     let left = to - from;
-    let got = libc::read(STDIN_FILENO, &mut bytes[left..]);
-    let n = io::count(got, &bytes[left..]);
-    received(p, got, n)
+    let came = read_once(rt, &mut bytes[left..]);
+    received(p, came.got, came.n)
 }
 
 // Where the input cannot be read the log is bad.
-fn tell_unread(p: Progress, out: &mut [u8])
+fn tell_unread(rt: &impl Print, p: Progress, out: &mut [u8])
     requires { 128 ≤ length out.old }
 {
     let failed = p.failed;
@@ -91,32 +106,30 @@ fn tell_unread(p: Progress, out: &mut [u8])
     if let Failed::Reading = failed {
         let t = bad(mark, out);
         let length = t.length;
-        io::write_all(STDOUT_FILENO, &out[..length]);
+        let _ = rt.write_all(&out[..length]);
     }
 }
 
-fn read_more(p: Progress, bytes: &mut [u8], out: &mut [u8]) -> Progress
+fn read_more(rt: &(impl Input + Print), p: Progress, bytes: &mut [u8], out: &mut [u8]) -> Progress
     requires { Inside p bytes.old × (p.to - p.from < length bytes.old) × (128 ≤ length out.old) }
     ensures { Refilled p bytes.old result bytes.new × Inside result bytes.new }
 {
-    let next = refill(p, bytes);
-    tell_unread(next, out);
+    let next = refill(rt, p, bytes);
+    tell_unread(rt, next, out);
     next
 }
 
 // A report that is cut must not pass for a whole one.
-fn tell_unwritten(p: Progress) {
+fn tell_unwritten(rt: &impl Eprint, p: Progress) {
     let failed = p.failed;
     if let Failed::Writing = failed {
-        io::write_all(
-            STDERR_FILENO,
-            b"meterlog: the report could not be written whole\n",
-        );
+        let _ = eprintln!(rt; "meterlog: the report could not be written whole");
     }
 }
 
 // One turn: its text is written, or, where too few bytes are at hand, more are read.
 fn step(
+    rt: &(impl Input + Print + Eprint),
     p: Progress,
     bytes: &mut [u8],
     out: &mut [u8],
@@ -153,12 +166,12 @@ fn step(
         out,
     );
     if t.short {
-        return read_more(p, bytes, out);
+        return read_more(rt, p, bytes, out);
     }
     let length = t.length;
-    let wrote = io::write_all(STDOUT_FILENO, &out[..length]);
+    let wrote = rt.write_all(&out[..length]).is_ok();
     let next = written(p, t, wrote);
-    tell_unwritten(next);
+    tell_unwritten(rt, next);
     next
 }
 
@@ -172,6 +185,7 @@ fn turns_left(going: bool, turns: u64) -> u64
 
 // All turns, from the beginning.
 pub fn run(
+    rt: &(impl Input + Print + Eprint),
     bytes: &mut [u8],
     out: &mut [u8],
     store: &mut [i32],
@@ -198,7 +212,9 @@ pub fn run(
     };
     let mut turns = MOST_TURNS;
     while 0 < turns {
-        p = step(p, bytes, out, store, sums, recording, r, mean, room, tags);
+        p = step(
+            rt, p, bytes, out, store, sums, recording, r, mean, room, tags,
+        );
         let mark = p.mark;
         turns = turns_left(mark.going, turns);
     }

@@ -3,7 +3,6 @@ ghost use Rattle.std.specs.Prelude.{◌≡◌, ◌≤◌};
 ghost use Rattle.meterlog.specs.Telling.{word_at, word_for};
 
 use crate::{Failed, Progress, Word};
-use libc::STDERR_FILENO;
 use logitems::Phase;
 use logitems::phases::{goes_on, may_end};
 
@@ -42,14 +41,14 @@ pub fn word_for(p: Progress) -> Word
     }
 }
 
-pub fn tell(word: Word) {
+pub fn tell(rt: &impl Eprint, word: Word) {
     match word {
         Word::Silence => {}
         Word::BadLog => {
-            io::write_all(STDERR_FILENO, b"meterlog: the log is bad\n");
+            let _ = eprintln!(rt; "meterlog: the log is bad");
         }
         Word::RefusedStart => {
-            io::write_all(STDERR_FILENO, b"meterlog: the start was refused\n");
+            let _ = eprintln!(rt; "meterlog: the start was refused");
         }
     }
 }

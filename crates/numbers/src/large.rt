@@ -8,9 +8,10 @@ use lines::digest::{digest_samples, digest_scaled, digest_wide};
 use lines::print::{line_end, number, three, word};
 use register::shift::full_period;
 
-fn predicted_line(order: u32, taps: u32, h: &[i32], y: &mut [i32]) {
+fn predicted_line(rt: &impl Print, order: u32, taps: u32, h: &[i32], y: &mut [i32]) {
     let answer = prediction::predict(order, taps, h, y);
     three(
+        rt,
         b"predict",
         order as u64,
         answer.number as u64,
@@ -19,6 +20,7 @@ fn predicted_line(order: u32, taps: u32, h: &[i32], y: &mut [i32]) {
 }
 
 fn response_line(
+    rt: &impl Print,
     order: u32,
     taps: u32,
     y: &[i32],
@@ -28,6 +30,7 @@ fn response_line(
 ) {
     let answer = response::one_recording(order, taps, y, out, room, tags);
     three(
+        rt,
         b"response",
         order as u64,
         answer.number as u64,
@@ -36,13 +39,13 @@ fn response_line(
 }
 
 // P + 1 times the response.
-fn recovered_line(order: u32, h: &[i32])
+fn recovered_line(rt: &impl Print, order: u32, h: &[i32])
     requires { length h.now ≤ 65535 }
 {
-    word(b"recovered");
-    number(order as u64);
-    number(digest_scaled(h, h.len() + 1));
-    line_end();
+    word(rt, b"recovered");
+    number(rt, order as u64);
+    number(rt, digest_scaled(h, h.len() + 1));
+    line_end(rt);
 }
 
 // The default taps, and 0 where the order has none.
@@ -55,6 +58,7 @@ pub fn taps_of(order: u32) -> u32 {
 
 // A response predicted, and the prediction turned back.
 fn order_lines(
+    rt: &impl Print,
     order: u32,
     h: &mut [i32],
     y: &mut [i32],
@@ -66,13 +70,14 @@ fn order_lines(
 {
     let taps = taps_of(order);
     fill_pattern(h);
-    predicted_line(order, taps, h, y);
-    response_line(order, taps, y, out, room, tags);
-    recovered_line(order, h);
+    predicted_line(rt, order, taps, h, y);
+    response_line(rt, order, taps, y, out, room, tags);
+    recovered_line(rt, order, h);
 }
 
 // The same in just as much of longer buffers as the order needs.
 fn lines_within(
+    rt: &impl Print,
     order: u32,
     h: &mut [i32],
     y: &mut [i32],
@@ -86,6 +91,7 @@ fn lines_within(
     let period = full_period(order) as usize;
     let wide = period + 1;
     order_lines(
+        rt,
         order,
         &mut h[..period],
         &mut y[..period],
@@ -95,39 +101,53 @@ fn lines_within(
     );
 }
 
-fn all_orders(h: &mut [i32], y: &mut [i32], out: &mut [i64], room: &mut [i64], tags: &mut [u16])
+fn all_orders(
+    rt: &impl Print,
+    h: &mut [i32],
+    y: &mut [i32],
+    out: &mut [i64],
+    room: &mut [i64],
+    tags: &mut [u16],
+)
     requires { (length h.old ≡ 65535) × (length y.old ≡ 65535) × (length out.old ≡ 65535)
         × (length room.old ≡ 65536) × (length tags.old ≡ 65535) }
 {
     let mut order = 2;
     while order < 17 {
-        lines_within(order, h, y, out, room, tags);
+        lines_within(rt, order, h, y, out, room, tags);
         order += 1;
     }
 }
 
-fn loud_line(name: &[u8], y: &[i32], out: &mut [i64], room: &mut [i64], tags: &mut [u16]) {
+fn loud_line(
+    rt: &impl Print,
+    name: &[u8],
+    y: &[i32],
+    out: &mut [i64],
+    room: &mut [i64],
+    tags: &mut [u16],
+) {
     response::one_recording(16, taps_of(16), y, out, room, tags);
-    word(b"loud ");
-    word(name);
-    number(digest_wide(out));
-    line_end();
+    word(rt, b"loud ");
+    word(rt, name);
+    number(rt, digest_wide(out));
+    line_end(rt);
 }
 
 // Every number at the lowest sample, then the lowest and the highest in turn.
-fn loud_lines(y: &mut [i32], out: &mut [i64], room: &mut [i64], tags: &mut [u16]) {
+fn loud_lines(rt: &impl Print, y: &mut [i32], out: &mut [i64], room: &mut [i64], tags: &mut [u16]) {
     fill_turns(y, -8388608, -8388608);
-    loud_line(b"lowest", y, out, room, tags);
+    loud_line(rt, b"lowest", y, out, room, tags);
     fill_turns(y, -8388608, 8388607);
-    loud_line(b"rails", y, out, room, tags);
+    loud_line(rt, b"rails", y, out, room, tags);
 }
 
-pub fn large_lines() {
+pub fn large_lines(rt: &impl Print) {
     let mut h: [i32; 65535] = [0; 65535];
     let mut y: [i32; 65535] = [0; 65535];
     let mut out: [i64; 65535] = [0; 65535];
     let mut room: [i64; 65536] = [0; 65536];
     let mut tags: [u16; 65535] = [0; 65535];
-    all_orders(&mut h, &mut y, &mut out, &mut room, &mut tags);
-    loud_lines(&mut y, &mut out, &mut room, &mut tags);
+    all_orders(rt, &mut h, &mut y, &mut out, &mut room, &mut tags);
+    loud_lines(rt, &mut y, &mut out, &mut room, &mut tags);
 }

@@ -42,54 +42,54 @@ fn fill_late(y: &[i32], out: &mut [i32], period: usize, d: usize)
     }
 }
 
-fn signed_words(r: &[i64]) {
+fn signed_words(rt: &impl Print, r: &[i64]) {
     let mut k = 0;
     while k < r.len() {
-        signed(r[k]);
+        signed(rt, r[k]);
         k += 1;
     }
 }
 
 // What one recording that starts d places late answers.
-fn answer_words(order: u32, taps: u32, d: usize, answer: u32) {
-    line_start(b"late", order, taps);
-    number(d as u64);
-    number(answer as u64);
+fn answer_words(rt: &impl Print, order: u32, taps: u32, d: usize, answer: u32) {
+    line_start(rt, b"late", order, taps);
+    number(rt, d as u64);
+    number(rt, answer as u64);
 }
 
 // A recording of order 3, with the numbers of its response.
-fn short_line(taps: u32, d: usize, y: &[i32]) {
+fn short_line(rt: &impl Print, taps: u32, d: usize, y: &[i32]) {
     let mut r = [0i64; SHORT_PERIOD];
     let mut room = [0i64; SHORT_PERIOD + 1];
     let mut tags = [0u16; SHORT_PERIOD];
     let answer = response::one_recording(SHORT_ORDER, taps, y, &mut r, &mut room, &mut tags);
-    answer_words(SHORT_ORDER, taps, d, answer.number);
-    signed_words(&r);
-    line_end();
+    answer_words(rt, SHORT_ORDER, taps, d, answer.number);
+    signed_words(rt, &r);
+    line_end(rt);
 }
 
 // What a response predicts, at each start in the period.
-fn short_lines(taps: u32, h: &[i32]) {
+fn short_lines(rt: &impl Print, taps: u32, h: &[i32]) {
     let mut y = [0i32; SHORT_PERIOD];
     let mut out = [0i32; SHORT_PERIOD];
     prediction::predict(SHORT_ORDER, taps, h, &mut y);
     let mut d = 0;
     while d < SHORT_PERIOD {
         fill_late(&y, &mut out, SHORT_PERIOD, d);
-        short_line(taps, d, &out);
-        night_line(SHORT_ORDER, taps, Night::Period, d, &out);
+        short_line(rt, taps, d, &out);
+        night_line(rt, SHORT_ORDER, taps, Night::Period, d, &out);
         d += 1;
     }
 }
 
 // A night of order 3, at each start in the period.
-fn short_nights(night: Night, y: &[i32], out: &mut [i32])
+fn short_nights(rt: &impl Print, night: Night, y: &[i32], out: &mut [i32])
     requires { (length y.now % 7 ≡ 0) × (length out.old ≡ length y.now) }
 {
     let mut d = 0;
     while d < SHORT_PERIOD {
         fill_late(y, out, SHORT_PERIOD, d);
-        night_line(SHORT_ORDER, FIRST_TAPS, night, d, out);
+        night_line(rt, SHORT_ORDER, FIRST_TAPS, night, d, out);
         d += 1;
     }
 }
@@ -104,76 +104,76 @@ fn fill_period(y: &mut [i32], i: usize, h: &[i32])
 }
 
 // A run-in, and two periods that differ.
-fn capture_lines() {
+fn capture_lines(rt: &impl Print) {
     let mut y = [0i32; 3 * SHORT_PERIOD];
     let mut out = [0i32; 3 * SHORT_PERIOD];
     fill_period(&mut y, 0, &PEAKED);
     fill_period(&mut y, 1, &TIED);
     fill_period(&mut y, 2, &PEAKED);
-    short_nights(Night::Capture(2), &y, &mut out);
+    short_nights(rt, Night::Capture(2), &y, &mut out);
 }
 
 // A night at both rails, and one with the widest spread that is still dead.
-fn unkept_lines() {
+fn unkept_lines(rt: &impl Print) {
     let rails = [0, 0, 0, HIGHEST_SAMPLE, 0, 0, LOWEST_SAMPLE];
     let dead = [0, 0, 0, 7, 0, 0, 0];
     let mut out = [0i32; SHORT_PERIOD];
-    short_nights(Night::Period, &rails, &mut out);
-    short_nights(Night::Period, &dead, &mut out);
+    short_nights(rt, Night::Period, &rails, &mut out);
+    short_nights(rt, Night::Period, &dead, &mut out);
 }
 
 // A recording of order 9, with the digest of its response.
-fn long_line(taps: u32, d: usize, y: &[i32]) {
+fn long_line(rt: &impl Print, taps: u32, d: usize, y: &[i32]) {
     let mut r = [0i64; LONG_PERIOD];
     let mut room = [0i64; LONG_PERIOD + 1];
     let mut tags = [0u16; LONG_PERIOD];
     let answer = response::one_recording(LONG_ORDER, taps, y, &mut r, &mut room, &mut tags);
-    answer_words(LONG_ORDER, taps, d, answer.number);
-    number(digest_wide(&r));
-    line_end();
+    answer_words(rt, LONG_ORDER, taps, d, answer.number);
+    number(rt, digest_wide(&r));
+    line_end(rt);
 }
 
 // One start of a recording of order 9.
-fn long_start(taps: u32, y: &[i32], d: usize)
+fn long_start(rt: &impl Print, taps: u32, y: &[i32], d: usize)
     requires { (length y.now ≡ 511) × (d < 511) }
 {
     let mut out = [0i32; LONG_PERIOD];
     fill_late(y, &mut out, LONG_PERIOD, d);
-    long_line(taps, d, &out);
-    night_line(LONG_ORDER, taps, Night::Period, d, &out);
+    long_line(rt, taps, d, &out);
+    night_line(rt, LONG_ORDER, taps, Night::Period, d, &out);
 }
 
 // What a response predicts, at some starts in the period.
-fn long_lines(h: &[i32]) {
+fn long_lines(rt: &impl Print, h: &[i32]) {
     let taps = taps_of(LONG_ORDER);
     let mut y = [0i32; LONG_PERIOD];
     prediction::predict(LONG_ORDER, taps, h, &mut y);
-    long_start(taps, &y, 0);
-    long_start(taps, &y, 1);
-    long_start(taps, &y, 2);
-    long_start(taps, &y, 10);
-    long_start(taps, &y, 100);
-    long_start(taps, &y, 255);
-    long_start(taps, &y, 256);
-    long_start(taps, &y, 509);
-    long_start(taps, &y, 510);
+    long_start(rt, taps, &y, 0);
+    long_start(rt, taps, &y, 1);
+    long_start(rt, taps, &y, 2);
+    long_start(rt, taps, &y, 10);
+    long_start(rt, taps, &y, 100);
+    long_start(rt, taps, &y, 255);
+    long_start(rt, taps, &y, 256);
+    long_start(rt, taps, &y, 509);
+    long_start(rt, taps, &y, 510);
 }
 
 // The pattern, in which many numbers tie for the peak, and the same with one number above all others.
-fn pattern_lines() {
+fn pattern_lines(rt: &impl Print) {
     let mut h = [0i32; LONG_PERIOD];
     fill_pattern(&mut h);
-    long_lines(&h);
+    long_lines(rt, &h);
     h[100] = 300;
-    long_lines(&h);
+    long_lines(rt, &h);
 }
 
-pub fn late_lines() {
-    short_lines(FIRST_TAPS, &TIED);
-    short_lines(FIRST_TAPS, &PEAKED);
-    short_lines(SECOND_TAPS, &TIED);
-    short_lines(SECOND_TAPS, &PEAKED);
-    capture_lines();
-    unkept_lines();
-    pattern_lines();
+pub fn late_lines(rt: &impl Print) {
+    short_lines(rt, FIRST_TAPS, &TIED);
+    short_lines(rt, FIRST_TAPS, &PEAKED);
+    short_lines(rt, SECOND_TAPS, &TIED);
+    short_lines(rt, SECOND_TAPS, &PEAKED);
+    capture_lines(rt);
+    unkept_lines(rt);
+    pattern_lines(rt);
 }

@@ -20,46 +20,46 @@ const DAY: u32 = 1;
 const PLACES: usize = 511;
 
 // The words that begin a line of this name.
-pub fn line_start(name: &[u8], order: u32, taps: u32) {
-    word(name);
-    number(order as u64);
-    number(taps as u64);
+pub fn line_start(rt: &impl Print, name: &[u8], order: u32, taps: u32) {
+    word(rt, name);
+    number(rt, order as u64);
+    number(rt, taps as u64);
 }
 
-fn refused_words(n: u32) {
-    word(b" refused");
-    number(n as u64);
+fn refused_words(rt: &impl Print, n: u32) {
+    word(rt, b" refused");
+    number(rt, n as u64);
 }
 
-fn summary_words(s: Summary) {
+fn summary_words(rt: &impl Print, s: Summary) {
     match s {
-        Summary::Nothing => word(b" nothing"),
+        Summary::Nothing => word(rt, b" nothing"),
         Summary::Measured(levels) => {
-            bits(levels.highest);
-            bits(levels.lowest);
-            bits(levels.peak);
+            bits(rt, levels.highest);
+            bits(rt, levels.lowest);
+            bits(rt, levels.peak);
         }
-        Summary::Refused(n) => refused_words(n),
+        Summary::Refused(n) => refused_words(rt, n),
     }
 }
 
 // A kept night, with the levels of the campaign that holds it.
-fn kept_words(c: Campaign, store: &[i32], sums: &[i64]) {
+fn kept_words(rt: &impl Print, c: Campaign, store: &[i32], sums: &[i64]) {
     let mut room = [0i64; PLACES + 1];
     let mut tags = [0u16; PLACES];
-    word(b" kept");
-    summary_words(summary(c, store, sums, &mut room, &mut tags));
+    word(rt, b" kept");
+    summary_words(rt, summary(c, store, sums, &mut room, &mut tags));
 }
 
-fn verdict_words(verdict: Verdict, c: Campaign, store: &[i32], sums: &[i64]) {
+fn verdict_words(rt: &impl Print, verdict: Verdict, c: Campaign, store: &[i32], sums: &[i64]) {
     match verdict {
-        Verdict::Kept(_) => kept_words(c, store, sums),
+        Verdict::Kept(_) => kept_words(rt, c, store, sums),
         Verdict::Overloaded(p) => {
-            word(b" overload");
-            number(p as u64);
+            word(rt, b" overload");
+            number(rt, p as u64);
         }
-        Verdict::Dead => word(b" dead"),
-        Verdict::Refused(n) => refused_words(n),
+        Verdict::Dead => word(rt, b" dead"),
+        Verdict::Refused(n) => refused_words(rt, n),
     }
 }
 
@@ -71,7 +71,7 @@ fn started(order: u32, taps: u32, store: &mut [i32], sums: &mut [i64]) -> Campai
 }
 
 // A night whose recording starts d places late: how many of its periods count, and its verdict.
-pub fn night_line(order: u32, taps: u32, night: Night, d: usize, y: &[i32]) {
+pub fn night_line(rt: &impl Print, order: u32, taps: u32, night: Night, d: usize, y: &[i32]) {
     let mut store = [0i32; PLACES];
     let mut sums = [0i64; PLACES];
     let c = started(order, taps, &mut store, &mut sums);
@@ -79,9 +79,9 @@ pub fn night_line(order: u32, taps: u32, night: Night, d: usize, y: &[i32]) {
     let entry = done.entry;
     let verdict = entry.verdict;
     let after = done.campaign;
-    line_start(b"late-night", order, taps);
-    number(periods_of(night) as u64);
-    number(d as u64);
-    verdict_words(verdict, after, &store, &sums);
-    line_end();
+    line_start(rt, b"late-night", order, taps);
+    number(rt, periods_of(night) as u64);
+    number(rt, d as u64);
+    verdict_words(rt, verdict, after, &store, &sums);
+    line_end(rt);
 }

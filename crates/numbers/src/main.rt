@@ -1,4 +1,6 @@
 // The numbers to hold the meter to, from the proved calls: a second program prints the same lines.
+#![tactic(auto)]
+
 mod checks;
 mod large;
 mod late;
@@ -6,14 +8,14 @@ mod late_nights;
 mod recordings;
 mod signals;
 
-fn main() {
-    checks::taps_lines();
-    checks::all_taps_lines();
-    checks::default_lines();
-    recordings::recording_lines();
-    recordings::sample_lines();
-    recordings::mean_lines();
-    recordings::refused_line();
-    large::large_lines();
-    late::late_lines();
+fn main(rt: HostRuntime) {
+    checks::taps_lines(&rt);
+    checks::all_taps_lines(&rt);
+    checks::default_lines(&rt);
+    recordings::recording_lines(&rt);
+    recordings::sample_lines(&rt);
+    recordings::mean_lines(&rt);
+    recordings::refused_line(&rt);
+    large::large_lines(&rt);
+    late::late_lines(&rt);
 }

@@ -12,67 +12,67 @@ fn answer(y: &[i32]) -> Answer {
     response::one_recording(3, 3, y, &mut out, &mut room, &mut tags)
 }
 
-fn recording_line(y: &[i32]) {
-    word(b"recording");
-    number(3);
-    number(3);
-    number(y.len() as u64);
-    number(answer(y).number as u64);
-    line_end();
+fn recording_line(rt: &impl Print, y: &[i32]) {
+    word(rt, b"recording");
+    number(rt, 3);
+    number(rt, 3);
+    number(rt, y.len() as u64);
+    number(rt, answer(y).number as u64);
+    line_end(rt);
 }
 
-pub fn recording_lines() {
-    recording_line(&[0i32; 6]);
-    recording_line(&[0i32; 7]);
-    recording_line(&[0i32; 8]);
+pub fn recording_lines(rt: &impl Print) {
+    recording_line(rt, &[0i32; 6]);
+    recording_line(rt, &[0i32; 7]);
+    recording_line(rt, &[0i32; 8]);
 }
 
-fn sample_line(v: i32) {
+fn sample_line(rt: &impl Print, v: i32) {
     let y = [v, 0, 0, 0, 0, 0, 0];
-    word(b"sample");
-    signed(v as i64);
-    number(answer(&y).number as u64);
-    line_end();
+    word(rt, b"sample");
+    signed(rt, v as i64);
+    number(rt, answer(&y).number as u64);
+    line_end(rt);
 }
 
-pub fn sample_lines() {
-    sample_line(8388606);
-    sample_line(8388607);
-    sample_line(8388608);
-    sample_line(-8388608);
-    sample_line(-8388609);
+pub fn sample_lines(rt: &impl Print) {
+    sample_line(rt, 8388606);
+    sample_line(rt, 8388607);
+    sample_line(rt, 8388608);
+    sample_line(rt, -8388608);
+    sample_line(rt, -8388609);
 }
 
-fn mean_line(edition: u32, r: i64, d: u64, mean: i64) {
-    word(b"mean");
-    number(edition as u64);
-    signed(r);
-    number(d);
-    signed(mean);
-    line_end();
+fn mean_line(rt: &impl Print, edition: u32, r: i64, d: u64, mean: i64) {
+    word(rt, b"mean");
+    number(rt, edition as u64);
+    signed(rt, r);
+    number(rt, d);
+    signed(rt, mean);
+    line_end(rt);
 }
 
 // The means over 8 in an edition, by the call that works out a response's means.
-fn edition_means(edition: u32) {
+fn edition_means(rt: &impl Print, edition: u32) {
     let r = [4i64, -4, -10, 12, -12, 3, -3, 0];
     let mut means = [0i32; 8];
     write_means(edition, &r, &mut means, 8, 8);
     let mut k = 0;
     while k < 8 {
-        mean_line(edition, r[k], 8, means[k] as i64);
+        mean_line(rt, edition, r[k], 8, means[k] as i64);
         k += 1;
     }
 }
 
-pub fn mean_lines() {
-    edition_means(AWAY_FROM_ZERO);
-    edition_means(TO_EVEN);
+pub fn mean_lines(rt: &impl Print) {
+    edition_means(rt, AWAY_FROM_ZERO);
+    edition_means(rt, TO_EVEN);
 }
 
-pub fn refused_line() {
+pub fn refused_line(rt: &impl Print) {
     let h = [8388607, 8388607, 0, 0, 0, 0, 0];
     let mut y = [0i32; 7];
-    word(b"predict-refused");
-    number(prediction::predict(3, 3, &h, &mut y).number as u64);
-    line_end();
+    word(rt, b"predict-refused");
+    number(rt, prediction::predict(3, 3, &h, &mut y).number as u64);
+    line_end(rt);
 }

@@ -1,4 +1,6 @@
 // The signs that players give, by blocks and one clock at a time: a second program prints the same lines.
+#![tactic(auto)]
+
 mod held;
 mod print;
 mod runs;
@@ -7,22 +9,22 @@ use player::Player;
 use runs::{blocks_run, clocks_run, new};
 
 // A player that is refused gives nothing, and stays as it was.
-fn refused_runs(order: u32, taps: u32, window: u32) {
+fn refused_runs(rt: &impl Print, order: u32, taps: u32, window: u32) {
     let player = Player {
         order: order,
         taps: taps,
         window: window,
         count: 5,
     };
-    blocks_run(player, 1);
-    clocks_run(player, 1);
+    blocks_run(rt, player, 1);
+    clocks_run(rt, player, 1);
 }
 
-fn main() {
-    blocks_run(new(2), 9);
-    blocks_run(new(3), 17);
-    blocks_run(new(9), 1025);
-    clocks_run(new(3), 17);
+fn main(rt: HostRuntime) {
+    blocks_run(&rt, new(2), 9);
+    blocks_run(&rt, new(3), 17);
+    blocks_run(&rt, new(9), 1025);
+    clocks_run(&rt, new(3), 17);
     // The player of order 3 after 4,294,967,290 samples is at place 5: its count wraps within the run.
     let late = Player {
         order: 3,
@@ -30,11 +32,11 @@ fn main() {
         window: 5,
         count: 4294967290,
     };
-    blocks_run(late, 17);
-    clocks_run(late, 17);
-    refused_runs(1, 1, 1);
-    refused_runs(3, 8, 7);
-    refused_runs(3, 2, 7);
-    refused_runs(3, 3, 0);
-    refused_runs(3, 3, 8);
+    blocks_run(&rt, late, 17);
+    clocks_run(&rt, late, 17);
+    refused_runs(&rt, 1, 1, 1);
+    refused_runs(&rt, 3, 8, 7);
+    refused_runs(&rt, 3, 2, 7);
+    refused_runs(&rt, 3, 3, 0);
+    refused_runs(&rt, 3, 3, 8);
 }

@@ -2,23 +2,23 @@
 use lines::print::{number, word};
 
 // - for -1, + for +1.
-pub fn mark(minus: bool) {
+pub fn mark(rt: &impl Print, minus: bool) {
     if minus {
-        word(b"-");
+        word(rt, b"-");
     } else {
-        word(b"+");
+        word(rt, b"+");
     }
 }
 
-pub fn marks(signs: &[i8]) {
+pub fn marks(rt: &impl Print, signs: &[i8]) {
     let mut k = 0;
     while k < signs.len() {
-        mark(signs[k] < 0);
+        mark(rt, signs[k] < 0);
         k += 1;
     }
 }
 
-pub fn refusal(answer: u32) {
-    word(b"refused");
-    number(answer as u64);
+pub fn refusal(rt: &impl Print, answer: u32) {
+    word(rt, b"refused");
+    number(rt, answer as u64);
 }

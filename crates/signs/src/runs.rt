@@ -26,20 +26,20 @@ pub fn new(order: u32) -> Player {
     player
 }
 
-fn head(name: &[u8], player: Player) {
-    word(name);
-    number(player.order as u64);
-    number(player.taps as u64);
-    number(player.window as u64);
-    number(player.count as u64);
-    line_end();
+fn head(rt: &impl Print, name: &[u8], player: Player) {
+    word(rt, name);
+    number(rt, player.order as u64);
+    number(rt, player.taps as u64);
+    number(rt, player.window as u64);
+    number(rt, player.count as u64);
+    line_end(rt);
 }
 
-fn end(player: Player) {
-    word(b"end");
-    number(player.window as u64);
-    number(player.count as u64);
-    line_end();
+fn end(rt: &impl Print, player: Player) {
+    word(rt, b"end");
+    number(rt, player.window as u64);
+    number(rt, player.count as u64);
+    line_end(rt);
 }
 
 fn least(a: usize, b: usize) -> usize
@@ -50,58 +50,58 @@ fn least(a: usize, b: usize) -> usize
 }
 
 // The next block on a line: the player after it.
-fn block_line(player: Player, signs: &mut [i8]) -> Player {
+fn block_line(rt: &impl Print, player: Player, signs: &mut [i8]) -> Player {
     let played = filled(player, signs);
     if played.answer == 0 {
-        marks(signs);
+        marks(rt, signs);
     } else {
-        refusal(played.answer);
+        refusal(rt, played.answer);
     }
-    line_end();
+    line_end(rt);
     played.player
 }
 
-fn block_of(player: Player, n: usize) -> Player
+fn block_of(rt: &impl Print, player: Player, n: usize) -> Player
     requires { n ≤ 64 }
 {
     let mut signs: [i8; 64] = [0; 64];
-    block_line(player, &mut signs[..n])
+    block_line(rt, player, &mut signs[..n])
 }
 
 // A line to each block, each block one longer than the one before it.
-pub fn blocks_run(player: Player, total: usize) {
-    head(b"blocks", player);
+pub fn blocks_run(rt: &impl Print, player: Player, total: usize) {
+    head(rt, b"blocks", player);
     let mut next = player;
     let mut length = 1;
     let mut left = total;
     while 0 < left {
         let n = least(length, left);
-        next = block_of(next, n);
+        next = block_of(rt, next, n);
         left -= n;
         length = length % 64 + 1;
     }
-    end(next);
+    end(rt, next);
 }
 
-fn tick_mark(tick: Tick) {
+fn tick_mark(rt: &impl Print, tick: Tick) {
     match tick {
-        Tick::Sign(sign) => mark(sign < 0),
-        Tick::Refused(answer) => refusal(answer),
+        Tick::Sign(sign) => mark(rt, sign < 0),
+        Tick::Refused(answer) => refusal(rt, answer),
     }
 }
 
 // The same, one clock at a time, on one line.
-pub fn clocks_run(player: Player, total: usize) {
-    head(b"clocks", player);
+pub fn clocks_run(rt: &impl Print, player: Player, total: usize) {
+    head(rt, b"clocks", player);
     let mut next = player;
     let mut left = total;
     while 0 < left {
         let stepped = clocked(next);
         let tick = stepped.tick;
-        tick_mark(tick);
+        tick_mark(rt, tick);
         next = stepped.player;
         left -= 1;
     }
-    line_end();
-    end(next);
+    line_end(rt);
+    end(rt, next);
 }

@@ -25,14 +25,15 @@ fn with_record(held: Held, campaign: Campaign, sums: [i64; PLACES]) -> Held {
     next
 }
 
-fn start_words(answer: u32) {
-    word(b"start");
-    number(answer as u64);
-    line_end();
+fn start_words(rt: &impl Print, answer: u32) {
+    word(rt, b"start");
+    number(rt, answer as u64);
+    line_end(rt);
 }
 
 // A start with the front parts of these lengths.
 pub fn start_line(
+    rt: &impl Print,
     held: Held,
     store: &mut [i32],
     order: u32,
@@ -55,52 +56,59 @@ pub fn start_line(
         &mut sums[..wide],
     );
     let answer = done.answer;
-    start_words(answer.number);
+    start_words(rt, answer.number);
     let after = done.campaign;
     with_record(held, after, sums)
 }
 
-fn verdict_words(verdict: Verdict) {
+fn verdict_words(rt: &impl Print, verdict: Verdict) {
     match verdict {
         Verdict::Kept(s) => {
-            word(b" 0 kept");
-            number(s as u64);
+            word(rt, b" 0 kept");
+            number(rt, s as u64);
         }
         Verdict::Overloaded(p) => {
-            word(b" 0 overload");
-            number(p as u64);
+            word(rt, b" 0 overload");
+            number(rt, p as u64);
         }
-        Verdict::Dead => word(b" 0 dead 0"),
+        Verdict::Dead => word(rt, b" 0 dead 0"),
         Verdict::Refused(n) => {
-            number(n as u64);
-            word(b" - 0");
+            number(rt, n as u64);
+            word(rt, b" - 0");
         }
     }
 }
 
-fn night_words(night: Night, day: u32) {
+fn night_words(rt: &impl Print, night: Night, day: u32) {
     match night {
         Night::Period => {
-            word(b"enter");
-            number(day as u64);
+            word(rt, b"enter");
+            number(rt, day as u64);
         }
         Night::Capture(m) => {
-            word(b"capture");
-            number(day as u64);
-            number(m as u64);
+            word(rt, b"capture");
+            number(rt, day as u64);
+            number(rt, m as u64);
         }
     }
 }
 
-fn entry_words(night: Night, entry: Entry) {
+fn entry_words(rt: &impl Print, night: Night, entry: Entry) {
     let verdict = entry.verdict;
-    night_words(night, entry.day);
-    verdict_words(verdict);
-    line_end();
+    night_words(rt, night, entry.day);
+    verdict_words(rt, verdict);
+    line_end(rt);
 }
 
 // The first samples of the recording at hand, entered as this night.
-pub fn enter_line(held: Held, store: &mut Store, d: u32, night: Night, samples: usize) -> Held
+pub fn enter_line(
+    rt: &impl Print,
+    held: Held,
+    store: &mut Store,
+    d: u32,
+    night: Night,
+    samples: usize,
+) -> Held
     requires { samples ≤ recording }
 {
     let mut sums = held.sums;
@@ -108,65 +116,66 @@ pub fn enter_line(held: Held, store: &mut Store, d: u32, night: Night, samples: 
     let c = held.campaign;
     let done = enter(c, store, &mut sums, d, night, &y[..samples]);
     let entry = done.entry;
-    entry_words(night, entry);
+    entry_words(rt, night, entry);
     let after = done.campaign;
     with_record(held, after, sums)
 }
 
-pub fn withdraw_line(held: Held, store: &mut Store, d: u32) -> Held {
+pub fn withdraw_line(rt: &impl Print, held: Held, store: &mut Store, d: u32) -> Held {
     let mut sums = held.sums;
     let c = held.campaign;
     let done = withdraw(c, store, &mut sums, d);
-    word(b"withdraw");
-    number(d as u64);
-    number(done.answer as u64);
-    line_end();
+    word(rt, b"withdraw");
+    number(rt, d as u64);
+    number(rt, done.answer as u64);
+    line_end(rt);
     let after = done.campaign;
     with_record(held, after, sums)
 }
 
-fn counts_line(held: Held, store: &Store) {
+fn counts_line(rt: &impl Print, held: Held, store: &Store) {
     let sums = held.sums;
     let c = held.campaign;
-    word(b"counts");
+    word(rt, b"counts");
     match counts(c, store, &sums) {
         Counts::Counted(t) => {
-            number(0);
-            number(t.unseen as u64);
-            number(t.standing as u64);
-            number(t.overloaded as u64);
-            number(t.dead as u64);
-            number(t.withdrawn as u64);
+            number(rt, 0);
+            number(rt, t.unseen as u64);
+            number(rt, t.standing as u64);
+            number(rt, t.overloaded as u64);
+            number(rt, t.dead as u64);
+            number(rt, t.withdrawn as u64);
         }
         Counts::Refused(n) => {
-            number(n as u64);
-            word(b" 0 0 0 0 0");
+            number(rt, n as u64);
+            word(rt, b" 0 0 0 0 0");
         }
     }
-    line_end();
+    line_end(rt);
 }
 
 // The digests that end the line of a response or a summary.
-fn rooms(held: Held) {
+fn rooms(rt: &impl Print, held: Held) {
     let room = held.room;
     let tags = held.tags;
-    number(digest_wide(&room));
-    number(digest_tags(&tags));
-    line_end();
+    number(rt, digest_wide(&room));
+    number(rt, digest_tags(&tags));
+    line_end(rt);
 }
 
-fn response_words(answer: u32, held: Held) {
+fn response_words(rt: &impl Print, answer: u32, held: Held) {
     let r = held.r;
     let mean = held.mean;
-    word(b"response");
-    number(answer as u64);
-    number(digest_wide(&r));
-    number(digest_samples(&mean));
-    rooms(held);
+    word(rt, b"response");
+    number(rt, answer as u64);
+    number(rt, digest_wide(&r));
+    number(rt, digest_samples(&mean));
+    rooms(rt, held);
 }
 
 // A response into the front parts of these lengths.
 pub fn response_line(
+    rt: &impl Print,
     held: Held,
     store: &Store,
     values: usize,
@@ -196,29 +205,29 @@ pub fn response_line(
     next.mean = mean;
     next.room = room;
     next.tags = tags;
-    response_words(answer, next);
+    response_words(rt, answer, next);
     next
 }
 
-fn summary_words(s: Summary) {
-    word(b"summary");
+fn summary_words(rt: &impl Print, s: Summary) {
+    word(rt, b"summary");
     match s {
-        Summary::Nothing => word(b" nothing"),
+        Summary::Nothing => word(rt, b" nothing"),
         Summary::Measured(levels) => {
-            number(0);
-            bits(levels.highest);
-            bits(levels.lowest);
-            bits(levels.peak);
+            number(rt, 0);
+            bits(rt, levels.highest);
+            bits(rt, levels.lowest);
+            bits(rt, levels.peak);
         }
         Summary::Refused(n) => {
-            number(n as u64);
-            word(b" 0 0 0");
+            number(rt, n as u64);
+            word(rt, b" 0 0 0");
         }
     }
 }
 
 // A summary with the front parts of these lengths.
-pub fn summary_line(held: Held, store: &Store, wide: usize, tagged: usize) -> Held
+pub fn summary_line(rt: &impl Print, held: Held, store: &Store, wide: usize, tagged: usize) -> Held
     requires { (wide ≤ places) × (tagged ≤ tag_places) }
 {
     let c = held.campaign;
@@ -229,28 +238,28 @@ pub fn summary_line(held: Held, store: &Store, wide: usize, tagged: usize) -> He
     let mut next = held;
     next.room = room;
     next.tags = tags;
-    summary_words(told);
-    rooms(next);
+    summary_words(rt, told);
+    rooms(rt, next);
     next
 }
 
-pub fn memory_line(held: Held, store: &Store) {
+pub fn memory_line(rt: &impl Print, held: Held, store: &Store) {
     let sums = held.sums;
-    word(b"memory");
-    number(digest_samples(store));
-    number(digest_wide(&sums));
-    line_end();
+    word(rt, b"memory");
+    number(rt, digest_samples(store));
+    number(rt, digest_wide(&sums));
+    line_end(rt);
 }
 
 // Counts, a response and a summary, with all the room there is.
-pub fn answers(held: Held, store: &Store) -> Held {
-    counts_line(held, store);
-    let told = response_line(held, store, PLACES, PLACES, PLACES, TAGS);
-    summary_line(told, store, PLACES, TAGS)
+pub fn answers(rt: &impl Print, held: Held, store: &Store) -> Held {
+    counts_line(rt, held, store);
+    let told = response_line(rt, held, store, PLACES, PLACES, PLACES, TAGS);
+    summary_line(rt, told, store, PLACES, TAGS)
 }
 
-pub fn ask(held: Held, store: &Store) -> Held {
-    let told = answers(held, store);
-    memory_line(told, store);
+pub fn ask(rt: &impl Print, held: Held, store: &Store) -> Held {
+    let told = answers(rt, held, store);
+    memory_line(rt, told, store);
     told
 }

@@ -1,4 +1,6 @@
 // A year of nights through the proved calls, as docs/YEAR.md has it: a second program prints the same lines.
+#![tactic(auto)]
+
 mod calls;
 mod memory;
 mod recordings;
@@ -49,7 +51,7 @@ pub struct Plan {
     pub most: usize,
 }
 
-fn main() {
+fn main(rt: HostRuntime) {
     let mut store: Store = [0; STORE];
     let small = Plan {
         order: 3,
@@ -67,6 +69,6 @@ fn main() {
         lag: 60,
         most: 4,
     };
-    campaign_lines(small, &mut store);
-    campaign_lines(large, &mut store);
+    campaign_lines(&rt, small, &mut store);
+    campaign_lines(&rt, large, &mut store);
 }

@@ -7,23 +7,23 @@ use lines::print::{line_end, number, word};
 use player::clock::step_player;
 use player::{Player, Tick};
 
-fn answer_line(name: &[u8], answer: u32) {
-    word(name);
-    number(answer as u64);
-    line_end();
+fn answer_line(rt: &impl Print, name: &[u8], answer: u32) {
+    word(rt, name);
+    number(rt, answer as u64);
+    line_end(rt);
 }
 
-fn predict_line(order: u32, taps: u32, period: usize, out: &mut [i32])
+fn predict_line(rt: &impl Print, order: u32, taps: u32, period: usize, out: &mut [i32])
     requires { period ≤ recording }
 {
     let mut h: [i32; RECORDING] = [0; RECORDING];
     h[0] = HIGHEST;
     h[1] = HIGHEST;
     let answer = prediction::predict(order, taps, &h[..period], out);
-    answer_line(b"predict", answer.number);
+    answer_line(rt, b"predict", answer.number);
 }
 
-fn step_line(order: u32, taps: u32, window: u32) {
+fn step_line(rt: &impl Print, order: u32, taps: u32, window: u32) {
     let stepped = step_player(Player {
         order,
         taps,
@@ -32,22 +32,22 @@ fn step_line(order: u32, taps: u32, window: u32) {
     });
     let tick = stepped.tick;
     match tick {
-        Tick::Sign(_) => answer_line(b"step", 0),
-        Tick::Refused(n) => answer_line(b"step", n),
+        Tick::Sign(_) => answer_line(rt, b"step", 0),
+        Tick::Refused(n) => answer_line(rt, b"step", n),
     }
 }
 
 // A prediction and two players of the plan's order and taps, all refused.
-pub fn refused_signals(held: Held, plan: Plan) -> Held
+pub fn refused_signals(rt: &impl Print, held: Held, plan: Plan) -> Held
     requires { Runs plan }
 {
     let order = plan.order;
     let taps = plan.taps;
     let period = plan.period;
     let mut y = held.y;
-    predict_line(order, taps, period, &mut y);
-    step_line(order, taps, 0);
-    step_line(order, taps, period as u32 + 1);
+    predict_line(rt, order, taps, period, &mut y);
+    step_line(rt, order, taps, 0);
+    step_line(rt, order, taps, period as u32 + 1);
     let mut next = held;
     next.y = y;
     next

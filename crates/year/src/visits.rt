@@ -13,97 +13,97 @@ use rounding::AWAY_FROM_ZERO;
 const VISITS: usize = 732;
 
 // The recording of visit i entered, now and then twice.
-fn enter_night(held: Held, store: &mut Store, plan: Plan, i: usize) -> Held
+fn enter_night(rt: &impl Print, held: Held, store: &mut Store, plan: Plan, i: usize) -> Held
     requires { (i < visits) × Runs plan }
 {
     let d = day_of(i);
     let night = night_of(i, plan.most);
     let length = length_of(plan, i);
     let mut next = recorded(held, plan, i);
-    next = enter_line(next, store, d, night, length);
+    next = enter_line(rt, next, store, d, night, length);
     if i % 13 == 5 {
-        return enter_line(next, store, d, night, length);
+        return enter_line(rt, next, store, d, night, length);
     }
     next
 }
 
 // The day of the visit that lies so far back, withdrawn.
-fn withdraw_night(held: Held, store: &mut Store, lag: usize, i: usize) -> Held
+fn withdraw_night(rt: &impl Print, held: Held, store: &mut Store, lag: usize, i: usize) -> Held
     requires { i < visits }
 {
     if i < lag {
         return held;
     }
-    withdraw_line(held, store, day_of(i - lag))
+    withdraw_line(rt, held, store, day_of(i - lag))
 }
 
-fn ask_some(held: Held, store: &Store, i: usize) -> Held {
+fn ask_some(rt: &impl Print, held: Held, store: &Store, i: usize) -> Held {
     if i % 61 == 60 {
-        return ask(held, store);
+        return ask(rt, held, store);
     }
     held
 }
 
-fn refuse_some(held: Held, store: &mut Store, plan: Plan, i: usize) -> Held
+fn refuse_some(rt: &impl Print, held: Held, store: &mut Store, plan: Plan, i: usize) -> Held
     requires { Runs plan }
 {
     if i == REFUSED_VISIT {
-        return be_refused(held, store, plan);
+        return be_refused(rt, held, store, plan);
     }
     held
 }
 
-fn visit(held: Held, store: &mut Store, plan: Plan, i: usize) -> Held
+fn visit(rt: &impl Print, held: Held, store: &mut Store, plan: Plan, i: usize) -> Held
     requires { (i < visits) × Runs plan }
 {
-    let mut next = enter_night(held, store, plan, i);
-    next = withdraw_night(next, store, plan.lag, i);
-    next = ask_some(next, store, i);
-    refuse_some(next, store, plan, i)
+    let mut next = enter_night(rt, held, store, plan, i);
+    next = withdraw_night(rt, next, store, plan.lag, i);
+    next = ask_some(rt, next, store, i);
+    refuse_some(rt, next, store, plan, i)
 }
 
-fn all_visits(held: Held, store: &mut Store, plan: Plan) -> Held
+fn all_visits(rt: &impl Print, held: Held, store: &mut Store, plan: Plan) -> Held
     requires { Runs plan }
 {
     let mut next = held;
     let mut i = 0;
     while i < VISITS {
-        next = visit(next, store, plan, i);
+        next = visit(rt, next, store, plan, i);
         i += 1;
     }
     next
 }
 
 // The days of the last visits, withdrawn.
-fn last_withdrawals(held: Held, store: &mut Store, lag: usize) -> Held
+fn last_withdrawals(rt: &impl Print, held: Held, store: &mut Store, lag: usize) -> Held
     requires { lag ≤ visits }
 {
     let mut next = held;
     let mut i = VISITS - lag;
     while i < VISITS {
-        next = withdraw_line(next, store, day_of(i));
+        next = withdraw_line(rt, next, store, day_of(i));
         i += 1;
     }
     next
 }
 
 // The planned campaign on filled memory, its record begun.
-fn started(plan: Plan, store: &mut Store) -> Held {
+fn started(rt: &impl Print, plan: Plan, store: &mut Store) -> Held {
     let order = plan.order;
     let taps = plan.taps;
     let capacity = plan.capacity;
     fill_store(store);
     let held = filled(blank(order, taps, capacity, AWAY_FROM_ZERO));
-    start_line(held, store, order, taps, capacity, STORE, PLACES)
+    start_line(rt, held, store, order, taps, capacity, STORE, PLACES)
 }
 
 // The planned campaign, from its start to its last answer.
-pub fn campaign_lines(plan: Plan, store: &mut Store)
+pub fn campaign_lines(rt: &impl Print, plan: Plan, store: &mut Store)
     requires { Runs plan }
 {
-    let mut held = started(plan, store);
-    held = ask(held, store);
-    held = all_visits(held, store, plan);
-    held = last_withdrawals(held, store, plan.lag);
-    ask(held, store);
+    let mut held = started(rt, plan, store);
+    held = ask(rt, held, store);
+    held = all_visits(rt, held, store, plan);
+    held = last_withdrawals(rt, held, store, plan.lag);
+    ask(rt, held, store);
 }

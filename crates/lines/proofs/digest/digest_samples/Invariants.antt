@@ -1,0 +1,16 @@
+-- `lines::digest::digest_samples` meets its contract: after j turns d is the digest of the first j. Assumes nothing.
+use mathlib.Core.Path.{◌≡◌, sym, ap, ◌∙◌}
+use Prim.Native.Nat.{◌-◌, ◌≤◌}
+use native.Mathlib.Omega.{arith}
+use lib.ListN.{length}
+use Rattle.sums.specs.Lists.{at}
+use Rattle.sums.proofs.Bound.{wide, wide_fits}
+use Rattle.lines.specs.Digest.{digest}
+use Rattle.lines.proofs.Folding.{digest-none, digest-lt, digest_more}
+use Rattle.lines.proofs.digest.digest_samples.Given as goal
+
+abbrev pub invariant-loop-j : goal.invariant-loop-j
+invariant-loop-j l = (l.j ≤ length l.y) × (l.d ≡ digest l.j (at l.y))
+
+abbrev pub decreases-loop-j : goal.decreases-loop-j
+decreases-loop-j l = length l.y - l.j

@@ -1,0 +1,25 @@
+-- `lines::digest::digest_wide` meets its contract: after j turns d is the digest of the first j. Assumes nothing.
+use mathlib.Core.Path.{◌≡◌, sym, ap, ◌∙◌}
+use Prim.Native.Nat.{◌-◌, ◌≤◌}
+use native.Mathlib.Omega.{arith}
+use lib.ListN.{length}
+use mir.Syntax.{w64}
+use Rattle.sums.specs.Lists.{at}
+use Rattle.sums.proofs.Bound.{read}
+use Rattle.lines.specs.Digest.{digest}
+use Rattle.lines.proofs.Folding.{digest-none, digest-lt, digest_more}
+use Rattle.lines.proofs.digest.digest_wide.Goals as goal
+
+pub loop-j-init : goal.loop-j-init
+loop-j-init c = (omega arith, sym (digest-none (at c.args.v.now)))
+
+pub fold-d-requires : goal.fold-d-requires
+fold-d-requires c =
+    let l = c.loop-j in
+    rw l.invariant.1 (digest-lt l.j (at c.args.v.now))
+
+pub loop-j-preserved : goal.loop-j-preserved
+loop-j-preserved c =
+    let v = c.args.v.now in
+    let l = c.loop-j in
+    (omega arith, digest_more (at v) l.j c.fold-d.ensures.0 l.invariant.1 (read w64 (at v l.j) c.fold-arg-1.given))
