@@ -10,8 +10,7 @@ use Rattle.records.specs.Record.{together}
 use Rattle.records.specs.declared.Campaign.{Campaign}
 use Rattle.trend.specs.Calls.{tally, counts_outcome}
 use Rattle.trend.specs.declared.Counts.TheVariants as counts
-use Rattle.trend.proofs.counting.counts.Statement.{statement}
-use Rattle.trend.proofs.counting.counts.Tie as tie
+use Rattle.trend.proofs.counting.counts.Goals as goal
 
 -- the answer, by whether the record holds together
 says : (c : Campaign) (store sums : List ℤ) {b : Bool} → b ≡ together c store sums
@@ -19,18 +18,9 @@ says : (c : Campaign) (store sums : List ℤ) {b : Bool} → b ≡ together c st
 unfolding counts_outcome
 says c store sums h = ap (λ b. outcome ((15, not b) ∷ []) counts.Refused (counts.Counted (tally c))) h
 
-holds-requires : tie.Need-holds-requires
-holds-requires c κs = search rules
+pub returns-then-not-holds : goal.returns-then-not-holds
+returns-then-not-holds c = says _ _ _ (sym (c.if-not-holds.true) ∙ c.holds.ensures)
 
-returns : tie.Need-returns
-returns c = let n = c.before in says _ _ _ (sym (not-true _ c.if1.true) ∙ n.holds.ensures)
-
-tally-of-requires : tie.Need-tally-of-requires
-tally-of-requires c κs = search rules
-
-returns-2 : tie.Need-returns-2
-returns-2 c =
-    ap counts.Counted c.tally-of.ensures ∙ says _ _ _ (sym (not-false _ c.before.if1.false) ∙ c.before.before.holds.ensures)
-
-pub counts-spec : {M : Type 1} → statement M
-counts-spec = tie.close (tie.spec holds-requires returns tally-of-requires returns-2)
+pub returns : goal.returns
+returns c =
+    ap counts.Counted c.tally_of.ensures ∙ says _ _ _ (sym (c.if-not-holds.false) ∙ c.holds.ensures)

@@ -19,8 +19,8 @@ use Rattle.campaign.specs.Calls.{given_checks, enter_checks, judged_for, settled
 use Rattle.campaign.specs.declared.Entered.{Entered}
 use Rattle.campaign.specs.declared.Verdict.TheVariants as verdict
 use Rattle.campaign.proofs.Passing.{in_day, judged_found}
-use Rattle.campaign.proofs.entering.file_found.Statement.{statement}
-use Rattle.campaign.proofs.entering.file_found.Tie as tie
+use Rattle.campaign.proofs.entering.file_found.Goals as goal
+use Rattle.campaign.proofs.entering.file_found.Goals.{After-contradicts, Else-day_stands}
 
 module _ (c : Campaign) (store sums : List ℤ) (d : ℕ) (night : Night) (y : List ℤ) where
   -- past the checks of what is given 11 decides
@@ -48,81 +48,35 @@ module _ (c : Campaign) (store sums : List ℤ) (d : ℕ) (night : Night) (y : L
         ap (λ b. outcome ((23, b) ∷ []) back made) t
         ∙ sym (passed_early back made (enter_checks c store sums d night y) ((23, not (same v (judged_for c night y))) ∷ []) 0 tt (sym z) refl)
 
-day-stands-requires : tie.Need-day-stands-requires
-day-stands-requires c κs =
-    let a = c.args in
-    let p = passes (given_checks a.c a.store.now a.sums.now a.d a.night a.y.now) tt c.requires.0 in
-    let r = in_day a.d p.1.0 in (r.first, r.last)
-
-entered-requires : tie.Need-entered-requires
-entered-requires c κs = search rules
-
-returns : tie.Need-returns
-returns c =
-    let s = c.before.before.before in
-    let a = s.args in
-    refused a.c a.store.now a.sums.now a.d a.night a.y.now (shown_to a.c a.night a.y.now a.shown)
-    (eleven a.c a.store.now a.sums.now a.d a.night a.y.now s.requires.0 true (sym c.before.if1.true ∙ c.before.before.day-stands.ensures)) c.entered.ensures
-
 -- the day does not stand
-early : (c : tie.Else1) → let a = c.before.before.args in first (enter_checks a.c a.store.now a.sums.now a.d a.night a.y.now) ≡ 0
+early : (c : Else-day_stands) → let a = c.args in first (enter_checks a.c a.store.now a.sums.now a.d a.night a.y.now) ≡ 0
 early c =
-    let s = c.before.before in
-    let a = s.args in
-    eleven a.c a.store.now a.sums.now a.d a.night a.y.now s.requires.0 false (sym c.if1.false ∙ c.before.day-stands.ensures)
-
-contradicts-requires : tie.Need-contradicts-requires
-contradicts-requires c κs = search rules
+    let a = c.args in
+    eleven a.c a.store.now a.sums.now a.d a.night a.y.now c.requires.0 false (sym c.if-day_stands.false ∙ c.day_stands.ensures)
 
 -- what the test of the verdict says
-tested : (c : tie.After-contradicts) → let a = c.before.before.before.args in
+tested : (c : After-contradicts) → let a = c.args in
     c.contradicts.result ≡ not (same (shown_to a.c a.night a.y.now a.shown) (judged_for a.c a.night a.y.now))
 tested c =
-    let s = c.before.before.before in
-    let a = s.args in
+    let a = c.args in
     let own = judged_found a.c a.store.now a.sums.now a.d a.night a.y.now (early c.before) in
-    c.contradicts.ensures ∙ ap (λ w. not (same (shown_as w a.shown) w)) (ap judged_of s.requires.1 ∙ sym own)
+    c.contradicts.ensures ∙ ap (λ w. not (same (shown_as w a.shown) w)) (ap judged_of c.requires.1 ∙ sym own)
 
-entered-requires-2 : tie.Need-entered-requires-2
-entered-requires-2 c κs = search rules
+pub returns-then-day_stands : goal.returns-then-day_stands
+returns-then-day_stands c =
+    let a = c.args in
+    refused a.c a.store.now a.sums.now a.d a.night a.y.now (shown_to a.c a.night a.y.now a.shown)
+    (eleven a.c a.store.now a.sums.now a.d a.night a.y.now c.requires.0 true (sym c.if-day_stands.true ∙ c.day_stands.ensures)) c.entered.ensures
 
-returns-2 : tie.Need-returns-2
-returns-2 c =
-    let t = c.before.before in
-    let a = t.before.before.before.args in
-    ap (λ r. (r, a.store.now, a.sums.now)) c.entered2.ensures
-    ∙ decided a.c a.store.now a.sums.now a.d a.night a.y.now (shown_to a.c a.night a.y.now a.shown) (early t.before) (sym c.before.if2.true ∙ tested t)
+pub returns-then-contradicts : goal.returns-then-contradicts
+returns-then-contradicts c =
+    let a = c.args in
+    ap (λ r. (r, a.store.now, a.sums.now)) c.entered-then-contradicts.ensures
+    ∙ decided a.c a.store.now a.sums.now a.d a.night a.y.now (shown_to a.c a.night a.y.now a.shown) (early (goal.at.returns-then-contradicts c).Else-day_stands) (sym c.if-contradicts.true ∙ tested (goal.at.returns-then-contradicts c).After-contradicts)
 
-settle-requires : tie.Need-settle-requires
-settle-requires c κs = early c.before.before.before.before
-
-same_length : tie.Need-same-length
-same_length c = search rules
-
-same-length-2 : tie.Need-same-length-2
-same-length-2 c = search rules
-
-returns-3 : tie.Need-returns-3
-returns-3 c =
-    let f = c.before.before.before.before.before in
-    let t = f.before in
-    let s = t.before.before.before in
-    let a = s.args in
-    c.before.before.settle.ensures
-    ∙ ap (λ x. found_outcome x a.c a.store.now a.sums.now a.d (periods_of a.night) (term_of a.c a.night a.y.now)) s.requires.1
-    ∙ decided a.c a.store.now a.sums.now a.d a.night a.y.now (shown_to a.c a.night a.y.now a.shown) (early t.before) (sym f.if2.false ∙ tested t)
-
-pub file-found-spec : {M : Type 1} → statement M
-file-found-spec =
-    tie.close
-    (tie.spec
-    day-stands-requires
-    entered-requires
-    returns
-    contradicts-requires
-    entered-requires-2
-    returns-2
-    settle-requires
-    same_length
-    same-length-2
-    returns-3)
+pub returns : goal.returns
+returns c =
+    let a = c.args in
+    c.settle.ensures
+    ∙ ap (λ x. found_outcome x a.c a.store.now a.sums.now a.d (periods_of a.night) (term_of a.c a.night a.y.now)) c.requires.1
+    ∙ decided a.c a.store.now a.sums.now a.d a.night a.y.now (shown_to a.c a.night a.y.now a.shown) (early (goal.at.returns c).Else-day_stands) (sym c.if-contradicts.false ∙ tested (goal.at.returns c).After-contradicts)
