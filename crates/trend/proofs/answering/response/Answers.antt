@@ -18,7 +18,7 @@ use Rattle.trend.specs.Calls.{response_checks, worked, mean_at, response_outcome
 use Rattle.trend.proofs.Bounds.{divisor-some, divisor_small, mean_fits}
 use Rattle.trend.proofs.Passing.{Answers, answers}
 use Rattle.trend.proofs.answering.response.Goals as goal
-use Rattle.trend.proofs.answering.response.Goals.{After-turn_sums, After-write_means, Else-refusal-ne0}
+use Rattle.trend.proofs.answering.response.Goals.{After-write_means, Else-refusal-ne0}
 
 module _ (c : Campaign) (store sums r mean room : List ℤ) (tags : List ℕ) (n : ℕ) (e : n ≡ first (response_checks c store sums r mean room tags)) where
   refused : (n ≡ 0 → ⊥) → (n, r, mean, room, tags) ≡ response_outcome c store sums r mean room tags
@@ -35,12 +35,7 @@ module _ (c : Campaign) (store sums r mean room : List ℤ) (tags : List ℕ) (n
 ready : (c : Else-refusal-ne0) → let a = c.args in Answers a.c a.store.now a.sums.now a.r.now a.mean.now a.room.now a.tags.now
 ready c = let a = c.args in answers a.c a.store.now a.sums.now a.r.now a.mean.now a.room.now a.tags.now (sym c.response_refusal-refusal.ensures ∙ c.if-refusal-ne0.false)
 
--- what was worked
-turned : (c : After-turn_sums) (k : ℕ) → let a = c.args in k < P a.c.order → at c.turn_sums.new.out k ≡ worked a.c a.sums.now k
-turned c k l =
-    let a = c.args in
-    ap (λ v. at v k) c.turn_sums.ensures.0 ∙ at-put (P a.c.order) (worked a.c a.sums.now) a.r.now k (pos 0) l
-
+-- the means are of what was worked
 mean-is : (c : After-write_means) → let a = c.args in c.write_means.new.out ≡ put (table (P a.c.order) (mean_at a.c a.sums.now)) a.mean.now
 mean-is c =
     let d = c.divisor_of-divisor in
@@ -49,7 +44,7 @@ mean-is c =
     c.write_means.ensures
     ∙ ap (λ v. put v a.mean.now)
     (ap (λ m. table m (λ k. rounded a.c.edition (at c.turn_sums.new.out k) d.result)) p.ensures
-    ∙ table_ext (P a.c.order) (λ k l. ap₂ (rounded a.c.edition) (turned c.before.before.before.before.before.before k l) d.ensures))
+    ∙ table_ext (P a.c.order) (λ k l. ap₂ (rounded a.c.edition) (ap (λ v. at v k) c.turn_sums.ensures.0 ∙ at-put (P a.c.order) (worked a.c a.sums.now) a.r.now k (pos 0) l) d.ensures))
 
 pub returns-then-refusal-ne0 : goal.returns-then-refusal-ne0
 returns-then-refusal-ne0 c = let a = c.args in refused a.c a.store.now a.sums.now a.r.now a.mean.now a.room.now a.tags.now _ c.response_refusal-refusal.ensures c.if-refusal-ne0.true

@@ -32,9 +32,9 @@ sized z = pos (nat_abs z)
 
 abbrev pub invariant-loop-k : goal.invariant-loop-k
 invariant-loop-k l = (l.k < l.period) × (l.tag ≡ tag_of l.order l.taps (l.period - l.k))
-    × Best plain (value l.order l.taps l.t l.period) l.period l.k (to_z w64 l.highest)
-    × Best minus (value l.order l.taps l.t l.period) l.period l.k (to_z w64 l.lowest)
-    × Best sized (value l.order l.taps l.t l.period) l.period l.k (to_z w64 l.peak)
+    × Best plain (value l.order l.taps l.t l.period) l.period l.k l.highest
+    × Best minus (value l.order l.taps l.t l.period) l.period l.k l.lowest
+    × Best sized (value l.order l.taps l.t l.period) l.period l.k l.peak
 
 abbrev pub decreases-loop-k : goal.decreases-loop-k
 decreases-loop-k l = l.k

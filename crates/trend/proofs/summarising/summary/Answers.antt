@@ -61,7 +61,7 @@ standing-are : (c : After-days_in) → c.days_in.result ≡ days_in c.args.c sta
 standing-are c = c.days_in.ensures ∙ days_in_is c.args.c standing
 
 some : (c : Else-days_in-eq0) → days_in c.args.c standing ≡ 0 → ⊥
-some c z = c.if-days_in-eq0.false (standing-are c.before ∙ z)
+some c z = c.if-days_in-eq0.false (c.days_in.ensures ∙ days_in_is c.args.c standing ∙ z)
 
 pub returns-then-refusal-ne0 : goal.returns-then-refusal-ne0
 returns-then-refusal-ne0 c = let a = c.args in refused a.c a.store.now a.sums.now a.room.now a.tags.now _ c.summary_refusal-refusal.ensures c.if-refusal-ne0.true
