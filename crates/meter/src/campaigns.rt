@@ -113,9 +113,9 @@ pub extern "C" fn meter_counts(
     dead: &mut u32,
     withdrawn: &mut u32,
 ) -> u32
-    ensures { (result, record { unseen = unseen.exit.now; standing = standing.new; overloaded = overloaded.new; dead = dead.new; withdrawn = withdrawn.new })
+    ensures { (result, record { unseen = unseen.new; standing = standing.new; overloaded = overloaded.new; dead = dead.new; withdrawn = withdrawn.new })
         ≡ counts_door order taps capacity edition days.now slots.now periods.now store.now sums.now
-        (record { unseen = unseen.entry.now; standing = standing.old; overloaded = overloaded.old; dead = dead.old; withdrawn = withdrawn.old }) }
+        (record { unseen = unseen.old; standing = standing.old; overloaded = overloaded.old; dead = dead.old; withdrawn = withdrawn.old }) }
 {
     if tables_short(days.len(), slots.len(), periods.len()) {
         return 15;
@@ -143,10 +143,10 @@ pub extern "C" fn meter_summary(
     lowest: &mut f64,
     peak: &mut f64,
 ) -> u32
-    ensures { (result, room.new, tags.new, stands.new, record { highest = highest.exit.now; lowest = lowest.new; peak = peak.new })
+    ensures { (result, room.new, tags.new, stands.new, record { highest = highest.new; lowest = lowest.new; peak = peak.new })
         ≡ summary_door order taps capacity edition days.now slots.now periods.now store.now sums.now
         room.old tags.old stands.old
-        (record { highest = highest.entry.now; lowest = lowest.old; peak = peak.old }) }
+        (record { highest = highest.old; lowest = lowest.old; peak = peak.old }) }
 {
     if tables_short(days.len(), slots.len(), periods.len()) {
         return 15;
