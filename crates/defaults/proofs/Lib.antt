@@ -1,3 +1,2 @@
 -- The laws of the default taps.
 pub mod Certificate
-mod Defaults

@@ -5,6 +5,7 @@ ghost use Rattle.defaults.specs.Calls.{default_outcome};
 use crate::DefaultTaps;
 
 // The default taps of an order.
+#[tactic(auto, unfolding(crate::specs::Calls::default_outcome))]
 pub fn default_taps(order: u32) -> DefaultTaps
     ensures { result ≡ default_outcome order }
 {

@@ -10,7 +10,7 @@ use lib.ListN.{length, drop, length-drop}
 use lib.Seq.{get_or-drop}
 use lib.Signed.{lt_z}
 use Rattle.sums.specs.Lists.{at}
-use Rattle.sums.proofs.Seek.{First, seek-first, first_unique}
+use Rattle.sums.proofs.Seek.{seek-first, first_unique}
 use Rattle.sums.proofs.Somewhere.{none_of, some-none}
 use Rattle.samples.specs.Samples.{rail, sample_out, some_out, least_of, most_of}
 use Rattle.samples.proofs.Rails.{off_rails, off_out}

@@ -1,4 +1,6 @@
 // What a night is judged to be, by its samples alone: no record, no day, and nothing is written.
+#![tactic(auto)]
+
 pub mod judging;
 pub mod listening;
 pub mod verdicts;

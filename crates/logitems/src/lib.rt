@@ -1,4 +1,6 @@
 // A campaign's log: its items, which document 01 calls records, and what stands at a place of it.
+#![tactic(auto)]
+
 pub mod decoding;
 pub mod feeding;
 pub mod kinds;

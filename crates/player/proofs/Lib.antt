@@ -2,4 +2,3 @@
 pub mod Playable
 pub mod Playing
 pub mod Blocks
-pub mod Held

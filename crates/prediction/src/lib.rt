@@ -1,4 +1,6 @@
 // A recording predicted from a response.
+#![tactic(auto)]
+
 mod alone;
 mod direct;
 mod lent;

@@ -1,4 +1,6 @@
 // A campaign's record, and whether it holds together with the store and the sums that are lent.
+#![tactic(auto)]
+
 pub mod filing;
 pub mod slots;
 mod stored;

@@ -1,4 +1,6 @@
 // One recording, or the sums of many, turned into a response.
+#![tactic(auto)]
+
 pub mod gather;
 pub mod given;
 pub mod of_sums;

@@ -1,10 +1,9 @@
 -- `finding::looking::look` meets its contract, by what the scan found. Assumes nothing.
-use mathlib.Core.Path.{◌≡◌, sym, ap, ◌∙◌}
+use mathlib.Core.Path.{◌≡◌, ap}
 use mathlib.Core.List.{List}
 use lib.IntN.{ℤ}
 use Rattle.finding.specs.Finding.{rail_of, still, judged, finding}
 use Rattle.finding.specs.declared.Rail.{Rail}
-use borrow.Author.Rules.{rules}
 use Rattle.finding.proofs.looking.look.Goals as goal
 
 judges : (y : List ℤ) {r : Rail} → r ≡ rail_of y → judged r (still y) ≡ finding y
@@ -12,5 +11,4 @@ unfolding finding
 judges y e = ap (λ r. judged r (still y)) e
 
 pub returns-in-First : goal.returns-in-First
-returns-in-First c =
-    judges c.args.y.now (sym c.p-1.given.1 ∙ c.find_rail.ensures)
+returns-in-First c = judges c.args.y.now c.in-First.ensures

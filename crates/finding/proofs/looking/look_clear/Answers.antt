@@ -2,7 +2,6 @@
 use mathlib.Core.Path.{◌≡◌, sym, ap, ap₂, ◌∙◌}
 use Rattle.finding.specs.Finding.{judged, finding}
 use Rattle.finding.specs.declared.Rail.TheVariants as scan
-use borrow.Author.Rules.{rules}
 use Rattle.finding.proofs.looking.look_clear.Goals as goal
 use Rattle.finding.proofs.looking.look_clear.Goals.{After-is_still}
 

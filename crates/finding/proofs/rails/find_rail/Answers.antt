@@ -1,6 +1,5 @@
 -- `finding::rails::find_rail` meets its contract: a recording that lies between the neighbours of the rails is at none. Assumes nothing.
 use mathlib.Core.Path.{sym, ◌∙◌}
-use borrow.Author.Rules.{rules}
 use Rattle.finding.proofs.Loud.{clear}
 use Rattle.finding.proofs.rails.find_rail.Goals as goal
 

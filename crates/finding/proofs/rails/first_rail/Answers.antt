@@ -1,8 +1,8 @@
 -- `finding::rails::first_rail` meets its contract: the first place at a rail lies ahead. Assumes nothing.
 use mathlib.Core.Path.{◌≡◌, refl, sym, ap, ◌∙◌}
-use mathlib.Core.Bool.{Bool, cond}
+use mathlib.Core.Bool.{cond}
 use mathlib.Core.List.{List}
-use Prim.Native.Nat.{ℕ, ◌-◌, ◌≤◌, ◌<◌}
+use Prim.Native.Nat.{ℕ, ◌<◌}
 use native.Mathlib.Omega.{arith}
 use borrow.Author.Tests.{lt-ltb, le-ltb}
 use lib.IntN.{ℤ}
@@ -13,7 +13,7 @@ use Rattle.sums.proofs.Bound.{read}
 use Rattle.samples.specs.Samples.{rail}
 use Rattle.finding.specs.Finding.{rail_place, rail_of}
 use Rattle.finding.specs.declared.Rail.TheVariants as scan
-use Rattle.sums.proofs.Seek.{Ahead, ahead_none, ahead_more, ahead_here, ahead_end}
+use Rattle.sums.proofs.Seek.{ahead_more, ahead_here, ahead_end}
 use Rattle.finding.proofs.rails.first_rail.Invariants.{test}
 use Rattle.finding.proofs.rails.first_rail.Goals as goal
 use Rattle.finding.proofs.rails.first_rail.Goals.{After-at_rail, Then-j-n}
@@ -26,7 +26,7 @@ none : (y : List ℤ) → length y ≡ rail_place y → scan.Clear ≡ rail_of y
 none y e = sym (ap (λ b. cond b (scan.First (rail_place y)) scan.Clear) (le-ltb (rail_place y) (length y) (omega arith)))
 
 said : (c : After-at_rail) → c.at_rail.result ≡ test c.args.y.now c.loop-j.j
-said c = c.at_rail.ensures ∙ ap rail (read w32 (at c.args.y.now c.loop-j.j) c.at_rail-arg-1.given)
+said c = c.at_rail.ensures ∙ ap rail (read w32 (at c.args.y.now c.loop-j.j) (omega arith))
 
 ended : (c : Then-j-n) → let y = c.args.y.now in length y ≡ rail_place y
 ended c =

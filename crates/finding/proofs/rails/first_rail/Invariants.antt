@@ -1,19 +1,13 @@
 -- `finding::rails::first_rail` meets its contract: the first place at a rail lies ahead. Assumes nothing.
-use mathlib.Core.Path.{◌≡◌, refl, sym, ap, ◌∙◌}
-use mathlib.Core.Bool.{Bool, cond}
+use mathlib.Core.Path.{◌≡◌}
+use mathlib.Core.Bool.{Bool}
 use mathlib.Core.List.{List}
-use Prim.Native.Nat.{ℕ, ◌-◌, ◌≤◌, ◌<◌}
-use native.Mathlib.Omega.{arith}
-use borrow.Author.Tests.{lt-ltb, le-ltb}
+use Prim.Native.Nat.{ℕ, ◌-◌, ◌≤◌}
 use lib.IntN.{ℤ}
 use lib.ListN.{length}
-use mir.Syntax.{w32}
 use Rattle.sums.specs.Lists.{at}
-use Rattle.sums.proofs.Bound.{read}
 use Rattle.samples.specs.Samples.{rail}
-use Rattle.finding.specs.Finding.{rail_place, rail_of}
-use Rattle.finding.specs.declared.Rail.TheVariants as scan
-use Rattle.sums.proofs.Seek.{Ahead, ahead_none, ahead_more, ahead_here, ahead_end}
+use Rattle.sums.proofs.Seek.{Ahead}
 use Rattle.finding.proofs.rails.first_rail.Given as goal
 
 abbrev pub test : List ℤ → ℕ → Bool

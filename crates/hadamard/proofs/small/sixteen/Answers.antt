@@ -1,17 +1,19 @@
 -- `sixteen` meets its contract: each half by `eight`, and then the sums and the differences. Assumes nothing.
-use mathlib.Core.Path.{sym}
-use borrow.Author.Rules.{rules}
-use Rattle.hadamard.proofs.Pieces.{Level, of_order, left_asks, right_asks, halves_are, level-asks, level_is}
+use Rattle.hadamard.proofs.Pieces.{of_order, left_asks, right_asks, halves_are, level-asks, level_is}
 use Rattle.hadamard.proofs.small.sixteen.Goals as goal
 
 pub eight-requires : goal.eight-requires
-eight-requires c = ?
+eight-requires c = left_asks (of_order 3 c.requires)
 
 pub eight-requires-2 : goal.eight-requires-2
-eight-requires-2 c = ?
+eight-requires-2 c = right_asks (of_order 3 c.requires) c.eight.ensures
 
 pub butterflies-requires : goal.butterflies-requires
-butterflies-requires c = ?
+butterflies-requires c =
+    let L = of_order 3 c.requires in
+    level-asks L (halves_are L c.eight.ensures c.eight-2.ensures)
 
 pub returns : goal.returns
-returns c = ?
+returns c =
+    let L = of_order 3 c.requires in
+    level_is L (halves_are L c.eight.ensures c.eight-2.ensures) c.butterflies.ensures

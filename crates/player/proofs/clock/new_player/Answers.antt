@@ -1,9 +1,8 @@
 -- `player::clock::new_player` meets its contract. Assumes nothing.
-use Rattle.std.proofs.Common.{sym, ◌∙◌, rules}
+use Rattle.std.proofs.Common.{sym}
 use Rattle.sums.proofs.First.{answered_refused}
 use Rattle.player.specs.Calls.{fresh_player, new_outcome}
 use Rattle.player.specs.declared.NewPlayer.TheVariants.{Ready, Refused}
-use Rattle.register.proofs.Judged.{shaped}
 use Rattle.player.proofs.clock.new_player.Goals as goal
 
 pub returns-then-refusal-ne0 : goal.returns-then-refusal-ne0

@@ -1,5 +1,5 @@
 -- `player::clock::play` meets its contract. Assumes nothing.
-use Rattle.std.proofs.Common.{ℕ, List, length, ℤ, sym, rules}
+use Rattle.std.proofs.Common.{ℕ, List, length, ℤ, sym}
 use Rattle.sums.specs.Lists.{table}
 use Rattle.sums.proofs.First.{answered_refused}
 use Rattle.player.specs.Calls.{after, sign_after, play_outcome}
@@ -26,4 +26,4 @@ pub returns : goal.returns
 unfolding play_outcome
 returns c =
     let f = c.fill_signs in
-    rw (f.ensures.0, f.ensures.1, ← c.check_player-refusal.ensures, c.if-refusal-ne0.false)
+    rw (f.ensures.value, f.ensures.signs_after, ← c.check_player-refusal.ensures, c.if-refusal-ne0.false)

@@ -1,5 +1,5 @@
 -- `player::clock::step_player` meets its contract. Assumes nothing.
-use Rattle.std.proofs.Common.{ℕ, ◌%◌, sym, w32, rules}
+use Rattle.std.proofs.Common.{ℕ, ◌%◌, sym, w32}
 use Rattle.sums.specs.Sum.{sign}
 use Rattle.sums.proofs.Bound.{read}
 use Rattle.sums.proofs.First.{answered_refused}

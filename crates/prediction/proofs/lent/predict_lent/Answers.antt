@@ -1,0 +1,20 @@
+-- `prediction::lent::predict_lent` meets its contract: an 8 that is found late is one in a room of zeros. Assumes nothing.
+use mathlib.Core.Path.{◌≡◌, ap, ◌∙◌}
+use mathlib.Core.List.{List}
+use Prim.Native.Nat.{◌+◌}
+use native.Mathlib.Omega.{arith}
+use lib.IntN.{ℤ}
+use Rattle.register.specs.Register.{P}
+use Rattle.samples.specs.Samples.{cleared_wide}
+use Rattle.samples.proofs.Rooms.{cleared_zeros}
+use Rattle.prediction.proofs.Foretelling.{in_room}
+use Rattle.prediction.proofs.lent.predict_lent.Goals as goal
+
+pub returns : goal.returns
+returns c =
+    let a = c.args in
+    let N = a.order in
+    let cleared : c.clear_wide.new.v ≡ cleared_wide (P N + 1) a.room.now = (rw c.requires.accepted.1 at c.clear_wide.ensures) ∙ c.predict_in-answer.ensures.1 in
+    ap (λ (l : List ℤ). (c.predict_in-answer.result, c.predict_in-answer.new.out, l)) cleared
+    ∙ in_room N a.taps a.h.now a.out.now c.predict_in-answer.ensures.0 a.room.now
+    (λ o. cleared_zeros (P N + 1) a.room.now (omega (arith, c.requires.accepted.3)) (λ i l. c.known_loud.ensures.zeros c.if-known_loud.false o i (omega arith)))
