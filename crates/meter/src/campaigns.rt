@@ -14,8 +14,7 @@ use trend::counting::counts;
 use trend::summarising::summary;
 
 // A short table is room too short, so the start is refused as one that is lent no memory.
-#[unsafe(no_mangle)]
-pub extern "C" fn meter_start(
+pub fn meter_start(
     order: u32,
     taps: u32,
     capacity: u32,
@@ -43,8 +42,7 @@ pub extern "C" fn meter_start(
     write_answer(answer, period)
 }
 
-#[unsafe(no_mangle)]
-pub extern "C" fn meter_withdraw(
+pub fn meter_withdraw(
     order: u32,
     taps: u32,
     capacity: u32,
@@ -69,8 +67,7 @@ pub extern "C" fn meter_withdraw(
     withdrawn.answer
 }
 
-#[unsafe(no_mangle)]
-pub extern "C" fn meter_response(
+pub fn meter_response(
     order: u32,
     taps: u32,
     capacity: u32,
@@ -96,8 +93,7 @@ pub extern "C" fn meter_response(
     response(c, store, sums, r, mean, room, tags)
 }
 
-#[unsafe(no_mangle)]
-pub extern "C" fn meter_counts(
+pub fn meter_counts(
     order: u32,
     taps: u32,
     capacity: u32,
@@ -125,8 +121,7 @@ pub extern "C" fn meter_counts(
     write_counts(counted, unseen, standing, overloaded, dead, withdrawn)
 }
 
-#[unsafe(no_mangle)]
-pub extern "C" fn meter_summary(
+pub fn meter_summary(
     order: u32,
     taps: u32,
     capacity: u32,
