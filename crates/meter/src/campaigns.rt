@@ -14,8 +14,7 @@ use trend::counting::counts;
 use trend::summarising::summary;
 
 // A short table is room too short, so the start is refused as one that is lent no memory.
-#[unsafe(no_mangle)]
-pub extern "C" fn meter_start(
+pub fn meter_start(
     order: u32,
     taps: u32,
     capacity: u32,
@@ -43,8 +42,7 @@ pub extern "C" fn meter_start(
     write_answer(answer, period)
 }
 
-#[unsafe(no_mangle)]
-pub extern "C" fn meter_withdraw(
+pub fn meter_withdraw(
     order: u32,
     taps: u32,
     capacity: u32,
@@ -69,8 +67,7 @@ pub extern "C" fn meter_withdraw(
     withdrawn.answer
 }
 
-#[unsafe(no_mangle)]
-pub extern "C" fn meter_response(
+pub fn meter_response(
     order: u32,
     taps: u32,
     capacity: u32,
@@ -96,8 +93,7 @@ pub extern "C" fn meter_response(
     response(c, store, sums, r, mean, room, tags)
 }
 
-#[unsafe(no_mangle)]
-pub extern "C" fn meter_counts(
+pub fn meter_counts(
     order: u32,
     taps: u32,
     capacity: u32,
@@ -113,9 +109,9 @@ pub extern "C" fn meter_counts(
     dead: &mut u32,
     withdrawn: &mut u32,
 ) -> u32
-    ensures { (result, record { unseen = unseen.exit.now; standing = standing.new; overloaded = overloaded.new; dead = dead.new; withdrawn = withdrawn.new })
+    ensures { (result, record { unseen = unseen.new; standing = standing.new; overloaded = overloaded.new; dead = dead.new; withdrawn = withdrawn.new })
         ≡ counts_door order taps capacity edition days.now slots.now periods.now store.now sums.now
-        (record { unseen = unseen.entry.now; standing = standing.old; overloaded = overloaded.old; dead = dead.old; withdrawn = withdrawn.old }) }
+        (record { unseen = unseen.old; standing = standing.old; overloaded = overloaded.old; dead = dead.old; withdrawn = withdrawn.old }) }
 {
     if tables_short(days.len(), slots.len(), periods.len()) {
         return 15;
@@ -125,8 +121,7 @@ pub extern "C" fn meter_counts(
     write_counts(counted, unseen, standing, overloaded, dead, withdrawn)
 }
 
-#[unsafe(no_mangle)]
-pub extern "C" fn meter_summary(
+pub fn meter_summary(
     order: u32,
     taps: u32,
     capacity: u32,
@@ -143,10 +138,10 @@ pub extern "C" fn meter_summary(
     lowest: &mut f64,
     peak: &mut f64,
 ) -> u32
-    ensures { (result, room.new, tags.new, stands.new, record { highest = highest.exit.now; lowest = lowest.new; peak = peak.new })
+    ensures { (result, room.new, tags.new, stands.new, record { highest = highest.new; lowest = lowest.new; peak = peak.new })
         ≡ summary_door order taps capacity edition days.now slots.now periods.now store.now sums.now
         room.old tags.old stands.old
-        (record { highest = highest.entry.now; lowest = lowest.old; peak = peak.old }) }
+        (record { highest = highest.old; lowest = lowest.old; peak = peak.old }) }
 {
     if tables_short(days.len(), slots.len(), periods.len()) {
         return 15;

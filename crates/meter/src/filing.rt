@@ -86,8 +86,7 @@ fn file_said(
     )
 }
 
-#[unsafe(no_mangle)]
-pub extern "C" fn meter_enter(
+pub fn meter_enter(
     order: u32,
     taps: u32,
     capacity: u32,
@@ -125,8 +124,7 @@ pub extern "C" fn meter_enter(
     )
 }
 
-#[unsafe(no_mangle)]
-pub extern "C" fn meter_capture(
+pub fn meter_capture(
     order: u32,
     taps: u32,
     capacity: u32,
@@ -165,8 +163,7 @@ pub extern "C" fn meter_capture(
     )
 }
 
-#[unsafe(no_mangle)]
-pub extern "C" fn meter_file(
+pub fn meter_file(
     order: u32,
     taps: u32,
     capacity: u32,
@@ -207,8 +204,7 @@ pub extern "C" fn meter_file(
     )
 }
 
-#[unsafe(no_mangle)]
-pub extern "C" fn meter_file_capture(
+pub fn meter_file_capture(
     order: u32,
     taps: u32,
     capacity: u32,

@@ -36,8 +36,7 @@ fn judge_night(
     )
 }
 
-#[unsafe(no_mangle)]
-pub extern "C" fn meter_judge(
+pub fn meter_judge(
     order: u32,
     taps: u32,
     y: &[i32],
@@ -51,8 +50,7 @@ pub extern "C" fn meter_judge(
     judge_night(order, taps, Night::Period, y, state, value, period)
 }
 
-#[unsafe(no_mangle)]
-pub extern "C" fn meter_judge_capture(
+pub fn meter_judge_capture(
     order: u32,
     taps: u32,
     m: u32,

@@ -1,4 +1,4 @@
-// The C door: each public call as a function of C, on numbers and slices.
+// The C door: each public call as a function of C, on numbers and slices. The crate meter_c exports them.
 pub mod campaigns;
 pub mod filing;
 pub mod judgements;

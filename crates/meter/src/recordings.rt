@@ -8,8 +8,7 @@ use crate::periods::write_answer;
 use prediction::{predict, predict_in_room};
 use response::one_recording;
 
-#[unsafe(no_mangle)]
-pub extern "C" fn meter_recording(
+pub fn meter_recording(
     order: u32,
     taps: u32,
     y: &[i32],
@@ -25,22 +24,14 @@ pub extern "C" fn meter_recording(
     write_answer(one_recording(order, taps, y, out, room, tags), period)
 }
 
-#[unsafe(no_mangle)]
-pub extern "C" fn meter_predict(
-    order: u32,
-    taps: u32,
-    h: &[i32],
-    out: &mut [i32],
-    period: &mut u32,
-) -> u32
+pub fn meter_predict(order: u32, taps: u32, h: &[i32], out: &mut [i32], period: &mut u32) -> u32
     ensures { ((result, out.new) ≡ prediction_outcome order taps h.now out.old)
         × (period.new ≡ told order taps result period.old) }
 {
     write_answer(predict(order, taps, h, out), period)
 }
 
-#[unsafe(no_mangle)]
-pub extern "C" fn meter_predict_in_room(
+pub fn meter_predict_in_room(
     order: u32,
     taps: u32,
     h: &[i32],

@@ -11,15 +11,13 @@ use player::{NewPlayer, Player, Tick};
 use register::sequence::sequence;
 use register::taps::check_taps;
 
-#[unsafe(no_mangle)]
-pub extern "C" fn meter_taps(order: u32, taps: u32, period: &mut u32) -> u32
+pub fn meter_taps(order: u32, taps: u32, period: &mut u32) -> u32
     ensures { (result ≡ taps_answer order taps) × (period.new ≡ told order taps result period.old) }
 {
     write_answer(check_taps(order, taps), period)
 }
 
-#[unsafe(no_mangle)]
-pub extern "C" fn meter_default_taps(order: u32, taps: &mut u32) -> u32
+pub fn meter_default_taps(order: u32, taps: &mut u32) -> u32
     ensures { (result, taps.new) ≡ default_door order taps.old }
 {
     match default_taps(order) {
@@ -31,16 +29,14 @@ pub extern "C" fn meter_default_taps(order: u32, taps: &mut u32) -> u32
     }
 }
 
-#[unsafe(no_mangle)]
-pub extern "C" fn meter_sequence(order: u32, taps: u32, out: &mut [u8], period: &mut u32) -> u32
+pub fn meter_sequence(order: u32, taps: u32, out: &mut [u8], period: &mut u32) -> u32
     ensures { ((result, out.new) ≡ sequence_outcome order taps out.old) × (period.new ≡ told order taps result period.old) }
 {
     write_answer(sequence(order, taps, out), period)
 }
 
 // The player's numbers o, t, window and count are those of a new player of this order and these taps.
-#[unsafe(no_mangle)]
-pub extern "C" fn meter_player_new(
+pub fn meter_player_new(
     order: u32,
     taps: u32,
     o: &mut u32,
@@ -63,8 +59,7 @@ pub extern "C" fn meter_player_new(
     }
 }
 
-#[unsafe(no_mangle)]
-pub extern "C" fn meter_player_step(
+pub fn meter_player_step(
     order: &mut u32,
     taps: &mut u32,
     window: &mut u32,
@@ -95,8 +90,7 @@ pub extern "C" fn meter_player_step(
     }
 }
 
-#[unsafe(no_mangle)]
-pub extern "C" fn meter_player_play(
+pub fn meter_player_play(
     order: &mut u32,
     taps: &mut u32,
     window: &mut u32,

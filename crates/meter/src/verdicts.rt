@@ -86,8 +86,8 @@ pub fn write_counts(
     dead: &mut u32,
     withdrawn: &mut u32,
 ) -> u32
-    ensures { (result, record { unseen = unseen.exit.now; standing = standing.new; overloaded = overloaded.new; dead = dead.new; withdrawn = withdrawn.new })
-        ≡ meant (record { unseen = unseen.entry.now; standing = standing.old; overloaded = overloaded.old; dead = dead.old; withdrawn = withdrawn.old })
+    ensures { (result, record { unseen = unseen.new; standing = standing.new; overloaded = overloaded.new; dead = dead.new; withdrawn = withdrawn.new })
+        ≡ meant (record { unseen = unseen.old; standing = standing.old; overloaded = overloaded.old; dead = dead.old; withdrawn = withdrawn.old })
         (counts_means counts) }
 {
     match counts {
@@ -111,8 +111,8 @@ pub fn write_summary(
     lowest: &mut f64,
     peak: &mut f64,
 ) -> u32
-    ensures { (result, (stands.new, record { highest = highest.exit.now; lowest = lowest.new; peak = peak.new }))
-        ≡ meant (stands.old, record { highest = highest.entry.now; lowest = lowest.old; peak = peak.old }) (summary_means summary) }
+    ensures { (result, (stands.new, record { highest = highest.new; lowest = lowest.new; peak = peak.new }))
+        ≡ meant (stands.old, record { highest = highest.old; lowest = lowest.old; peak = peak.old }) (summary_means summary) }
 {
     match summary {
         Summary::Nothing => {
