@@ -5,6 +5,7 @@ use Prim.Native.Nat.{ℕ}
 use borrow.Author.Rules.{rules}
 use lib.IntN.{ℤ}
 use mir.Syntax.{w32}
+use mir.Val.{SFits}
 use mir.ValLaws.{to_z-of_z}
 use Rattle.nights.specs.declared.Night.TheVariants as night
 use Rattle.logeffects.specs.Book.{said, began_outcome, edition_outcome, took_sample, closed_outcome, withdrew_outcome, asked_outcome}
@@ -70,33 +71,33 @@ module _ (b : Book) (m : Memory) {i : Item} where
 
 pub returns-in-Start : goal.returns-in-Start
 returns-in-Start c =
-    filed (lent (goal.at.returns-in-Start c).Start) (began c.args.book (lent (goal.at.returns-in-Start c).Start) c.item-1.given.1) c.begin.ensures
+    filed (lent (goal.at.returns-in-Start c).Start) (began c.args.book (lent (goal.at.returns-in-Start c).Start) c.in-Start.is) c.begin.ensures
 
 pub returns-in-Open : goal.returns-in-Open
 returns-in-Open c =
-    opened c.args.book (lent (goal.at.returns-in-Open c).Start) c.item-in-Open-1.given.1 c.say.ensures c.after_open.ensures
+    opened c.args.book (lent (goal.at.returns-in-Open c).Start) c.in-Open.is c.say.ensures c.after_open.ensures
 
 pub returns-in-Sample : goal.returns-in-Sample
 returns-in-Sample c =
-    sampled c.args.book (lent (goal.at.returns-in-Sample c).Start) c.item-in-Sample-1.given.1 c.say-in-Sample.ensures
-    (rw (to_z-of_z w32 _ (record { sfits = c.known_told-in-Sample-1.given.0.1 })) at c.take_sample.ensures)
+    let fits : SFits w32 c.in-Sample.v = search rules in
+    sampled c.args.book (lent (goal.at.returns-in-Sample c).Start) c.in-Sample.is c.say-in-Sample.ensures (rw (to_z-of_z w32 _ fits) at c.take_sample.ensures)
 
 pub returns-in-Enter : goal.returns-in-Enter
 returns-in-Enter c =
-    filed (lent (goal.at.returns-in-Enter c).Start) (closed c.args.book (lent (goal.at.returns-in-Enter c).Start) c.enum_told-1.given.1) c.close.ensures
+    filed (lent (goal.at.returns-in-Enter c).Start) (closed c.args.book (lent (goal.at.returns-in-Enter c).Start) c.in-Enter.is) c.close.ensures
 
 pub returns-in-Withdraw : goal.returns-in-Withdraw
 returns-in-Withdraw c =
-    filed (lent (goal.at.returns-in-Withdraw c).Start) (withdrew c.args.book (lent (goal.at.returns-in-Withdraw c).Start) c.item-in-Withdraw-1.given.1) c.withdraw_day.ensures
+    filed (lent (goal.at.returns-in-Withdraw c).Start) (withdrew c.args.book (lent (goal.at.returns-in-Withdraw c).Start) c.in-Withdraw.is) c.withdraw_day.ensures
 
 pub returns-in-Ask : goal.returns-in-Ask
 returns-in-Ask c =
-    asked c.args.book (lent (goal.at.returns-in-Ask c).Start) c.enum_told-in-Ask-1.given.1 c.ask.ensures
+    asked c.args.book (lent (goal.at.returns-in-Ask c).Start) c.in-Ask.is c.ask.ensures
 
 pub returns-in-Capture : goal.returns-in-Capture
 returns-in-Capture c =
-    captured c.args.book (lent (goal.at.returns-in-Capture c).Start) c.item-in-Capture-1.given.1 c.say-in-Capture.ensures c.after_open-in-Capture.ensures
+    captured c.args.book (lent (goal.at.returns-in-Capture c).Start) c.in-Capture.is c.say-in-Capture.ensures c.after_open-in-Capture.ensures
 
 pub returns-in-Edition : goal.returns-in-Edition
 returns-in-Edition c =
-    filed (lent (goal.at.returns-in-Edition c).Start) (restarted c.args.book (lent (goal.at.returns-in-Edition c).Start) c.item-in-Edition-1.given.1) c.restart.ensures
+    filed (lent (goal.at.returns-in-Edition c).Start) (restarted c.args.book (lent (goal.at.returns-in-Edition c).Start) c.in-Edition.is) c.restart.ensures
