@@ -1,4 +1,6 @@
 // The log program as one function, from the bytes of its input to the bytes that it prints; and its turn, on memory that is lent.
+#![tactic(auto)]
+
 pub mod turning;
 pub mod writing;
 

@@ -8,10 +8,10 @@ ghost use Rattle.logprogram.specs.Program.{first_memory, first_place, took, turn
 
 use crate::writing::{write_bad, write_lines};
 use crate::{Bookmark, Turned};
+use logeffects::applying::{apply, day_length, unbegun};
 use logitems::decoding::decode;
 use logitems::phases::goes_on;
 use logitems::{Found, Item};
-use logeffects::applying::{apply, day_length, unbegun};
 
 // Before the first item.
 pub fn first_mark() -> Bookmark

@@ -1,0 +1,19 @@
+-- `logprogram::writing::put_rows` meets its contract. The measure is the lines that are left. Assumes nothing.
+use mathlib.Core.Path.{◌≡◌, refl, ap₂, ◌∙◌}
+use Prim.Native.Nat.{◌+◌, ◌-◌, ◌*◌, ◌≤◌}
+use native.Mathlib.Omega.{arith}
+use borrow.Author.Rules.{rules}
+use lib.ListN.{length}
+use mir.Syntax.{w64}
+use Rattle.sums.specs.Lists as lists
+use Rattle.sums.proofs.Bound.{wide_fits, wide, read}
+use Rattle.report.specs.Lines.{row_bytes, Wrote}
+use Rattle.logprogram.specs.Program.{rows_bytes}
+use Rattle.logprogram.proofs.Rows.{rows_none, rows_more}
+use Rattle.logprogram.proofs.writing.put_rows.Given as goal
+
+abbrev pub invariant-loop-k : goal.invariant-loop-k
+invariant-loop-k l = (l.k ≤ l.rows) × (l.next ≤ l.at + 128 * l.k) × (length l.out ≡ length l.initial.out) × Wrote (rows_bytes l.k l.r l.mean) l.at l.initial.out l.next l.out
+
+abbrev pub decreases-loop-k : goal.decreases-loop-k
+decreases-loop-k l = l.rows - l.k
