@@ -1,4 +1,6 @@
 // The calls that change a campaign: start, file, enter, withdraw.
+#![tactic(auto)]
+
 mod days;
 pub mod entering;
 mod settling;

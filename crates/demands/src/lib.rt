@@ -1,1 +1,2 @@
 // The three demands on one page: laws, and no code.
+#![tactic(auto)]

@@ -1,4 +1,6 @@
 // Legendre sequences: the sequence, one recording and a prediction at fifteen periods between the powers of two, worked directly and with no room lent.
+#![tactic(auto)]
+
 mod meeting;
 mod periods;
 mod prediction;

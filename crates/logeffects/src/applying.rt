@@ -13,7 +13,9 @@ use campaign::starting::start;
 use campaign::withdrawing::withdraw;
 use campaign::{Entered, Entry, Started, Verdict, Withdrawn};
 use judging::judging::judge;
-use logitems::phases::{after_answer, after_enter, after_open, after_other, after_sample, first_phase};
+use logitems::phases::{
+    after_answer, after_enter, after_open, after_other, after_sample, first_phase,
+};
 use logitems::{Item, Phase};
 use nights::shape::periods_of;
 use nights::{MOST_PERIODS, Night};

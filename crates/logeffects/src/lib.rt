@@ -1,4 +1,6 @@
 // What a log's items do: the state between them, and the line that each makes.
+#![tactic(auto)]
+
 pub mod applying;
 
 use logitems::Phase;

@@ -1,4 +1,6 @@
 // The C door: each public call as a function of C, on numbers and slices. The crate meter_c exports them.
+#![tactic(auto)]
+
 pub mod campaigns;
 pub mod filing;
 pub mod judgements;

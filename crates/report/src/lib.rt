@@ -1,4 +1,6 @@
 // The lines that a log's items make, as bytes.
+#![tactic(auto)]
+
 pub mod printing;
 
 use campaign::Entry;

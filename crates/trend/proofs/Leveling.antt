@@ -66,6 +66,10 @@ significand (suc n) u d b v p q h = zero-lt-suc n
 pub div-at : (f : Format) (x y : Float) (s t : Bool) (a c b d : ℕ) → 0 < c → 0 < d → 0 < b
     → HasValue x s a c → HasValue y t b d → div f x y ≡ round f (unlike s t) (a * d) (c * b)
 unfolding div
+div-at f nan y s t a c b d C D B v w = elim v [ ]
+div-at f (inf _) y s t a c b d C D B v w = elim v [ ]
+div-at f (fin s' m e) nan s t a c b d C D B v w = elim w [ ]
+div-at f (fin s' m e) (inf _) s t a c b d C D B v w = elim w [ ]
 div-at f (fin s' m e) (fin t' n g) s t a c b d C D B v w =
     let some = significand n (up g) d b (down g) B (down_pos g) w.1 in
     ap (λ (z : Bool). cond z (cond (eqb m 0) nan (inf (unlike s' t'))) (round f (unlike s' t') (m * up e * down g) (n * up g * down e)))

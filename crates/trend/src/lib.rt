@@ -1,4 +1,6 @@
 // What a campaign says: counts, response, summary.
+#![tactic(auto)]
+
 pub mod answering;
 pub mod counting;
 mod dividing;

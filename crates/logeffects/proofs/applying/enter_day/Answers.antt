@@ -1,0 +1,47 @@
+-- `logeffects::applying::enter_day` meets its contract. Assumes nothing.
+use mathlib.Core.Path.{◌≡◌, refl, sym, ap, ◌∙◌}
+use mathlib.Core.List.{List}
+use Prim.Native.Nat.{ℕ}
+use native.Mathlib.Omega.{arith}
+use borrow.Author.Rules.{rules}
+use lib.IntN.{ℤ}
+use lib.ListN.{take}
+use lib.Seq.{length-take-le, take_all}
+use Rattle.sums.specs.Refusals.{first}
+use Rattle.nights.specs.declared.Night.{Night}
+use Rattle.records.specs.declared.Campaign.{Campaign}
+use Rattle.campaign.specs.Calls.{entered}
+use Rattle.campaign.specs.declared.Verdict.TheVariants as verdict
+use Rattle.campaign.specs.declared.Entered.{Entered}
+use Rattle.logeffects.specs.Book.{over, log_enter_checks, judged_then_filed, entered_by, entered_outcome}
+use Rattle.logeffects.specs.declared.Applied.{Applied}
+use Rattle.logeffects.proofs.Held.{refused_entry, passed_entry}
+use Rattle.logeffects.proofs.applying.enter_day.Goals as goal
+
+module _ (c : Campaign) (d : ℕ) (night : Night) (n : ℕ) (store sums y : List ℤ) (r : ℕ) (told : r ≡ first (log_enter_checks d night)) where
+  refused : (r ≡ 0 → ⊥) → {x : Applied} → x ≡ entered_by (entered c d (verdict.Refused r)) → (x, store, sums) ≡ entered_outcome c d night n store sums y
+  refused h p = rw p (sym (refused_entry c d night n store sums y r told h))
+
+  -- what is entered is the first n of the recording
+  of-the-first : r ≡ 0 → {z : List ℤ} → z ≡ take n y → {x : Applied} {e : Entered} {st su : List ℤ} → x ≡ entered_by e
+      → (e, st, su) ≡ judged_then_filed c d night store sums z → (x, st, su) ≡ entered_outcome c d night n store sums y
+  of-the-first h q p o =
+      rw p (ap (over entered_by) (o ∙ ap (judged_then_filed c d night store sums) q)) ∙ sym (passed_entry c d night n store sums y r told h)
+
+pub returns-then-refusal-ne0 : goal.returns-then-refusal-ne0
+returns-then-refusal-ne0 c =
+    let a = c.args in
+    refused a.c a.day a.night a.n a.store.now a.sums.now a.recording.now c.night_refusal-refusal.result c.night_refusal-refusal.ensures
+    c.if-refusal-ne0.true c.entered_by.ensures
+
+pub returns-then-n-recording : goal.returns-then-n-recording
+returns-then-n-recording c =
+    let a = c.args in
+    of-the-first a.c a.day a.night a.n a.store.now a.sums.now a.recording.now c.night_refusal-refusal.result c.night_refusal-refusal.ensures
+    c.if-refusal-ne0.false refl c.entered_by-then-n-recording.ensures c.file_night.ensures
+
+pub returns : goal.returns
+returns c =
+    let a = c.args in
+    of-the-first a.c a.day a.night a.n a.store.now a.sums.now a.recording.now c.night_refusal-refusal.result c.night_refusal-refusal.ensures
+    c.if-refusal-ne0.false (sym (take_all a.n a.recording.now c.if-n-recording.false)) c.entered_by-2.ensures c.file_night-2.ensures

@@ -1,0 +1,28 @@
+-- `trend::answering::response_refusal` meets its contract: each return rewrites with the tests that led there. Assumes nothing.
+use mathlib.Core.Path.{◌≡◌, sym, ◌∙◌}
+use mathlib.Core.Bool.{true, false}
+use Prim.Native.Nat.{◌≤◌}
+use native.Mathlib.Omega.{arith}
+use borrow.Author.Rules.{rules}
+use borrow.Author.Tests.{not-true, not-false, eq-eqb, ne_eqb}
+use Rattle.register.specs.Register.{P}
+use Rattle.register.proofs.Word.{small}
+use Rattle.records.specs.Record.{standing, days_in, together}
+use Rattle.records.proofs.Holding.{holds-together}
+use Rattle.records.proofs.Loops.{days_in_is}
+use Rattle.trend.specs.Calls.{answer_short}
+use Rattle.trend.proofs.answering.response_refusal.Goals as goal
+use Rattle.trend.proofs.answering.response_refusal.Goals.{Else-not-holds}
+
+-- past the first test
+whole : (c : Else-not-holds) → let a = c.args in together a.c a.store.now a.sums.now ≡ true
+whole c = sym c.holds.ensures ∙ c.if-not-holds.false
+
+order-most : (c : Else-not-holds) → c.args.c.order ≤ 16
+order-most c = ((holds-together _ _ _).0 (whole c)).filed.accepted.shaped.most
+
+pub full_period-requires : goal.full_period-requires
+full_period-requires c = order-most c
+
+pub answer_short-requires : goal.answer_short-requires
+answer_short-requires c = omega (arith, c.full_period.ensures, small (order-most (goal.at.answer_short-requires c).Else-not-holds))

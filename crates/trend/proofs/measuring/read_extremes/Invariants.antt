@@ -1,0 +1,40 @@
+-- `trend::measuring::read_extremes` meets its contract: each extreme is that of the places from k on, and the tag is that of the delay P - k.
+-- Assumes nothing.
+use mathlib.Core.Path.{◌≡◌, refl, ap, ◌∙◌}
+use mathlib.Core.List.{List}
+use Prim.Native.Nat.{ℕ, suc, ◌-◌, ◌^◌, ◌<◌}
+use native.Mathlib.Omega.{arith}
+use lib.IntN.{ℤ, pos, nat_abs, ◌-ℤ◌}
+use lib.ListN.{length}
+use mir.Syntax.{w64}
+use mir.Val.{of_z, to_z}
+use Rattle.sums.specs.Lists.{at}
+use Rattle.sums.proofs.Bound.{read, nat_abs-sub}
+use Rattle.register.specs.Register.{tag as tag_of}
+use Rattle.register.proofs.Windows.{tag-lt, tag-next}
+use Rattle.sums.proofs.Equal.{minus_le}
+use Rattle.sums.proofs.Scanning.{Best, best_one, best_more, best_all}
+use Rattle.trend.proofs.measuring.read_extremes.Given as goal
+
+-- what stands at place k
+abbrev pub value : ℕ → ℕ → List ℤ → ℕ → ℕ → ℤ
+value order taps t period k = at t (tag_of order taps (period - k)) -ℤ at t 0
+
+-- by what each extreme is the largest
+abbrev pub plain : ℤ → ℤ
+plain z = z
+
+abbrev pub minus : ℤ → ℤ
+minus z = pos 0 -ℤ z
+
+abbrev pub sized : ℤ → ℤ
+sized z = pos (nat_abs z)
+
+abbrev pub invariant-loop-k : goal.invariant-loop-k
+invariant-loop-k l = (l.k < l.period) × (l.tag ≡ tag_of l.order l.taps (l.period - l.k))
+    × Best plain (value l.order l.taps l.t l.period) l.period l.k l.highest
+    × Best minus (value l.order l.taps l.t l.period) l.period l.k l.lowest
+    × Best sized (value l.order l.taps l.t l.period) l.period l.k l.peak
+
+abbrev pub decreases-loop-k : goal.decreases-loop-k
+decreases-loop-k l = l.k

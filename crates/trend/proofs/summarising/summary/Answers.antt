@@ -1,0 +1,111 @@
+-- `trend::summarising::summary` meets its contract. Assumes nothing.
+use mathlib.Core.Path.{◌≡◌, sym, ap, ap₂, ◌∙◌}
+use mathlib.Core.Bool.{cond}
+use mathlib.Core.List.{List}
+use Prim.Native.Nat.{ℕ, ◌+◌}
+use native.Mathlib.Omega.{arith}
+use borrow.Author.Rules.{rules}
+use borrow.Author.Tests.{eq-eqb, ne_eqb}
+use lib.Dec.{eqb}
+use lib.IntN.{ℤ, nat_abs}
+use Rattle.sums.specs.Refusals.{first}
+use Rattle.sums.proofs.First.{refused_with, accepted_with}
+use Rattle.register.specs.Register.{P}
+use Rattle.samples.specs.Samples.{cleared_wide, cleared_tags}
+use Rattle.records.specs.Record.{standing, days_in}
+use Rattle.records.specs.declared.Campaign.{Campaign}
+use Rattle.records.proofs.Loops.{days_in_is}
+use Rattle.records.proofs.Totals.{sum_small}
+use Rattle.trend.specs.Calls.{summary_checks, worked, divisor, level, levels_of, summary_outcome}
+use Rattle.trend.specs.declared.Extremes.{Extremes}
+use Rattle.trend.specs.declared.Levels.{Levels}
+use Rattle.trend.specs.declared.Summary.{Summary}
+use Rattle.trend.specs.declared.Summary.TheVariants as summary
+use Rattle.trend.proofs.Bounds.{divisor-some, divisor_small, extremes_small}
+use Rattle.trend.proofs.Passing.{Measures, measures}
+use Rattle.trend.proofs.summarising.summary.Goals as goal
+use Rattle.trend.proofs.summarising.summary.Goals.{After-days_in, Else-days_in-eq0, Else-refusal-ne0}
+
+module _ (c : Campaign) (store sums room : List ℤ) (tags : List ℕ) (n : ℕ) (e : n ≡ first (summary_checks c store sums room tags)) where
+  -- what is handed back where a day stands, and where none does
+  made : Summary × List ℤ × List ℕ
+  made = (summary.Measured (levels_of (P c.order) (worked c sums) (divisor c)), cleared_wide (P c.order + 1) room, cleared_tags (P c.order) tags)
+
+  refused : (n ≡ 0 → ⊥) → (summary.Refused n, room, tags) ≡ summary_outcome c store sums room tags
+  unfolding summary_outcome
+  refused h = sym (refused_with _ _ (summary_checks c store sums room tags) n e h)
+
+  passed : n ≡ 0 → cond (eqb (days_in c standing) 0) (summary.Nothing, room, tags) made ≡ summary_outcome c store sums room tags
+  unfolding summary_outcome made
+  passed z = sym (accepted_with _ _ (summary_checks c store sums room tags) n e z)
+
+  nothing : n ≡ 0 → days_in c standing ≡ 0 → (summary.Nothing, room, tags) ≡ summary_outcome c store sums room tags
+  nothing z d = sym (ap (λ b. cond b (summary.Nothing, room, tags) made) (eq-eqb (days_in c standing) 0 d)) ∙ passed z
+
+  measured : n ≡ 0 → (days_in c standing ≡ 0 → ⊥) → {l : Levels} {v : List ℤ} {w : List ℕ} → l ≡ levels_of (P c.order) (worked c sums) (divisor c)
+      → v ≡ cleared_wide (P c.order + 1) room → w ≡ cleared_tags (P c.order) tags
+      → ◌≡◌ {A = Summary × List ℤ × List ℕ} (summary.Measured l, v, w) (summary_outcome c store sums room tags)
+  unfolding made
+  measured z d p q r =
+      rw (p, q, r) (sym (ap (λ b. cond b (summary.Nothing, room, tags) made) (ne_eqb (days_in c standing) 0 d)) ∙ passed z)
+
+-- each extreme over the same number
+abbrev over : Extremes → ℕ → Levels
+over e d = record { highest = level e.highest d; lowest = level e.lowest d; peak = level e.peak d }
+
+-- past the checks
+ready : (c : Else-refusal-ne0) → let a = c.args in Measures a.c a.store.now a.sums.now a.room.now a.tags.now
+ready c = let a = c.args in measures a.c a.store.now a.sums.now a.room.now a.tags.now (sym c.summary_refusal-refusal.ensures ∙ c.if-refusal-ne0.false)
+
+standing-are : (c : After-days_in) → c.days_in.result ≡ days_in c.args.c standing
+standing-are c = c.days_in.ensures ∙ days_in_is c.args.c standing
+
+some : (c : Else-days_in-eq0) → days_in c.args.c standing ≡ 0 → ⊥
+some c z = c.if-days_in-eq0.false (c.days_in.ensures ∙ days_in_is c.args.c standing ∙ z)
+
+pub returns-then-refusal-ne0 : goal.returns-then-refusal-ne0
+returns-then-refusal-ne0 c = let a = c.args in refused a.c a.store.now a.sums.now a.room.now a.tags.now _ c.summary_refusal-refusal.ensures c.if-refusal-ne0.true
+
+pub returns-then-days_in-eq0 : goal.returns-then-days_in-eq0
+returns-then-days_in-eq0 c =
+    let a = c.args in
+    nothing a.c a.store.now a.sums.now a.room.now a.tags.now _ c.summary_refusal-refusal.ensures c.if-refusal-ne0.false (sym (standing-are (goal.at.returns-then-days_in-eq0 c).After-days_in) ∙ c.if-days_in-eq0.true)
+
+pub divisor_of-divisor-requires : goal.divisor_of-divisor-requires
+divisor_of-divisor-requires c =
+    let f = (ready (goal.at.divisor_of-divisor-requires c).Else-refusal-ne0).whole.filed in
+    (f.accepted.shaped.most, f.most, divisor_small _ f)
+
+pub returns : goal.returns
+returns c =
+    let a = c.args in
+    measured a.c a.store.now a.sums.now a.room.now a.tags.now _ c.summary_refusal-refusal.ensures c.if-refusal-ne0.false (some (goal.at.returns c).Else-days_in-eq0)
+    (c.levels_of.ensures ∙ ap₂ over c.measure-extremes.ensures.0 c.divisor_of-divisor.ensures) c.measure-extremes.ensures.1 c.measure-extremes.ensures.2
+
+pub measure-extremes-requires-clause-accepted : goal.measure-extremes-requires-clause-accepted
+measure-extremes-requires-clause-accepted c =
+    let a = c.args in
+    let r = ready (goal.at.measure-extremes-requires-clause-accepted c).Else-refusal-ne0 in ((r.whole.filed.accepted, sum_small a.c a.store.now a.sums.now r.whole))
+
+pub measure-extremes-requires-clause-order_in_bounds : goal.measure-extremes-requires-clause-order_in_bounds
+measure-extremes-requires-clause-order_in_bounds c =
+    let a = c.args in
+    let r = ready (goal.at.measure-extremes-requires-clause-order_in_bounds c).Else-refusal-ne0 in ((r.whole.sums_long, r.room_long, r.tags_long))
+
+pub levels_of-requires-clause-highest_bound : goal.levels_of-requires-clause-highest_bound
+levels_of-requires-clause-highest_bound c =
+    let a = c.args in
+    let r = ready (goal.at.levels_of-requires-clause-highest_bound c).Else-refusal-ne0 in
+    let s = extremes_small a.c a.store.now a.sums.now r.whole in
+    let e = c.measure-extremes.ensures.0 in ((
+        omega (arith, ap (λ x. nat_abs x.highest) e, s.0),
+        omega (arith, ap (λ x. nat_abs x.lowest) e, s.1),
+        omega (arith, ap (λ x. nat_abs x.peak) e, s.2),
+      ))
+
+pub levels_of-requires-clause-d_nonzero : goal.levels_of-requires-clause-d_nonzero
+levels_of-requires-clause-d_nonzero c =
+    let a = c.args in
+    let r = ready (goal.at.levels_of-requires-clause-d_nonzero c).Else-refusal-ne0 in
+    let s = extremes_small a.c a.store.now a.sums.now r.whole in
+    let e = c.measure-extremes.ensures.0 in ((omega (arith, c.divisor_of-divisor.ensures, divisor-some a.c r.whole.filed (some (goal.at.levels_of-requires-clause-d_nonzero c).Else-days_in-eq0)), omega (arith, c.divisor_of-divisor.ensures, divisor_small a.c r.whole.filed)))
