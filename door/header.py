@@ -1,5 +1,5 @@
 #!/usr/bin/env python3
-"""Holds include/meter.h to the source: each exported function of crates/meter is declared, with the parameters that it has, by type and by name, and
+"""Holds include/meter.h to the source: each exported function of crates/meter_c is declared, with the parameters that it has, by type and by name, and
 no other is; and meter_explain and the manual's table have Python's words for every refusal.
 
 With a file as its argument it holds that file to them instead."""
@@ -30,7 +30,7 @@ def crossing(parameter):
 
 
 source = {}
-for path in sorted((root / "crates/meter/src").glob("*.rt")):
+for path in sorted((root / "crates/meter_c/src").glob("*.rt")):
     for name, parameters, answer in re.findall(r'pub extern "C" fn (\w+)\((.*?)\)\s*->\s*(\w+)', path.read_text(), re.S):
         source[name] = [numbers[answer]] + [c for p in parameters.split(",") if p.strip() for c in crossing(p)]
 

@@ -1,4 +1,4 @@
-/* The response meter, from C. Link libmeter.a, which `rt staticlib meter` writes.
+/* The response meter, from C. Link libmeter.a, which `door/archive` writes.
  *
  * Each function but meter_explain answers 0 or a refusal's number, and its comment has the numbers in the order of its checks. A refused call leaves
  * all that it was lent as it was. docs/MANUAL.md explains every call.

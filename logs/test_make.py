@@ -45,7 +45,7 @@ class Make(unittest.TestCase):
         rows = [f"| {k} | {r} | {r / 8:g} | {one} | {two} |" for (k, r, one), (_, _, two) in zip(*means, strict=True)]
         self.assertEqual(len(rows), 7)
         self.assertIn("\n".join(["|---|---|---|---|---|", *rows, ""]), manual)
-        self.assertIn(f"$ target/bin/meterlog < examples/halves-even.log\n{to_even}```", manual)
+        self.assertIn(f"$ crates/meterlog/out/meterlog < examples/halves-even.log\n{to_even}```", manual)
 
     def test_a_capture_is_its_kind_the_day_and_the_periods(self):
         self.assertEqual(make.log_from_text("capture 258 4"), b"\x07\x02\x01\x04")

@@ -1,6 +1,6 @@
 """The response meter from Python: a thin ctypes wrapper over the proved C door (include/meter.h). It needs no numpy.
 
-    rt staticlib meter                  # proves the meter and writes target/staticlib/libmeter.a
+    door/archive                        # proves the meter and writes target/staticlib/libmeter.a
     python3 python/example.py           # from a list of nights to the nights that are not in the mean, and the mean
 
 The shared object is linked from that archive at the first import, by `cc`; METER_LIBRARY names another. Samples are whole numbers
@@ -81,7 +81,7 @@ def _shared_object():
     root = pathlib.Path(__file__).resolve().parent.parent
     archive, made = root / "target/staticlib/libmeter.a", root / "target/python/libmeter.so"
     if not archive.exists():
-        raise ImportError(f"{archive} is not there: run `rt staticlib meter`")
+        raise ImportError(f"{archive} is not there: run `door/archive`")
     if not made.exists() or made.stat().st_mtime < archive.stat().st_mtime:
         made.parent.mkdir(parents=True, exist_ok=True)
         whole = ["-Wl,--whole-archive", str(archive), "-Wl,--no-whole-archive"]

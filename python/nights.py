@@ -1,6 +1,6 @@
 """nights.py LOG LINES: what became of each night of a log, the nights that are not in the mean first.
 
-    target/bin/meterlog < year.log > year.lines
+    crates/meterlog/out/meterlog < year.log > year.lines
     python3 python/nights.py year.log year.lines
 
 It reads the log's bytes and the lines that the log program printed for them (document 01, "The log program"), and calls nothing of the core.

@@ -84,7 +84,7 @@ class Tables(unittest.TestCase):
         self.assertIn(f"$ cat paper.lines\n{lines.decode()}$ ", (root / "README.md").read_text())
         for name in ("halves-even", "late"):
             lines = (root / f"examples/{name}.lines").read_text()
-            self.assertIn(f"$ target/bin/meterlog < examples/{name}.log\n{lines}```", (root / "docs/MANUAL.md").read_text())
+            self.assertIn(f"$ crates/meterlog/out/meterlog < examples/{name}.log\n{lines}```", (root / "docs/MANUAL.md").read_text())
 
     def test_300_good_nights_in_8_slots(self):
         night = "samples -4 -12 -4 12 12 -12 4\nenter\n"

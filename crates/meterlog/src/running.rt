@@ -1,7 +1,7 @@
 // One turn after another, until the program stops: each turn's text is written, and where too few bytes are at hand more are read.
 // No contract can say what is read or written, so a function that reads or writes decides nothing: what its answer leads to is a function of
 // that answer.
-ghost use Rattle.std.specs.Prelude.{◌≡◌, cond, ◌+◌, ◌-◌, ◌^◌, ◌≤◌, ◌<◌, length};
+ghost use Rattle.std.specs.Prelude.{◌≡◌, cond, ◌+◌, ◌-◌, ◌^◌, ◌≤◌, ◌<◌, pos, negsuc, length, MatchResult};
 ghost use Rattle.logeffects.specs.Book.{memory};
 ghost use Rattle.logprogram.specs.Program.{first_memory};
 ghost use Rattle.meterlog.specs.Buffer.{midway, Inside, stopping, after_write, after_read, Refilled, Stepped, Ended};
@@ -10,6 +10,7 @@ use crate::{Failed, Progress};
 use logitems::feeding::to_front;
 use logprogram::Turned;
 use logprogram::turning::{bad, first_mark, stop, take_turn};
+use std::io;
 use std::io::Read;
 
 // 2^60: a proved loop has to end, and nothing says that the input does.
@@ -75,13 +76,21 @@ struct Came {
     n: usize,
 }
 
-fn read_once(rt: &impl Input, bytes: &mut [u8]) -> Came
-    ensures { result.n ≤ length bytes.new }
+fn answered(answer: io::Result<usize>) -> Came
+    ensures { MatchResult answer
+        (λ n. (result.got ≡ pos 0) × (result.n ≡ n))
+        (λ e. (result.got ≡ negsuc 0) × (result.n ≡ 0)) }
 {
-    match rt.reader().read(bytes) {
+    match answer {
         Ok(n) => Came { got: 0, n },
         Err(_) => Came { got: -1, n: 0 },
     }
+}
+
+fn read_once(rt: &impl Input, bytes: &mut [u8]) -> Came
+    ensures { result.n ≤ length bytes.new }
+{
+    answered(rt.reader().read(bytes))
 }
 
 // One read: the bytes at hand go to the front of the buffer, and more behind them, where there is room.
