@@ -1,1 +1,2 @@
 // Every log is a run of the campaign's calls: laws, and no code.
+#![tactic(auto)]
