@@ -1,2 +1,0 @@
--- What the program's proofs cite.
-mod Lent
