@@ -6,7 +6,7 @@ use Rattle.register.proofs.Word.{small}
 use Rattle.numbers.proofs.checks.all_taps_line.Given as goal
 
 abbrev pub invariant-loop-taps : goal.invariant-loop-taps
-invariant-loop-taps g l = (l.count ≤ l.taps) × (l.d < 1000003) × (l.taps ≤ l.order) × (l.order ≤ 65537)
+invariant-loop-taps g l = (l.count ≤ l.taps) × (l.d < 1000003) × (l.taps ≤ l.end) × (l.end ≤ 65537)
 
 abbrev pub decreases-loop-taps : goal.decreases-loop-taps
-decreases-loop-taps g l = l.order - l.taps
+decreases-loop-taps g l = l.end - l.taps

@@ -12,7 +12,7 @@ use Rattle.numbers.specs.Signals.{turns}
 use Rattle.numbers.proofs.signals.fill_turns.Given as goal
 
 abbrev pub invariant-loop-i : goal.invariant-loop-i
-invariant-loop-i l = (l.i ≤ length l.initial.y) × Written l.i (turns (to_z w32 l.even) (to_z w32 l.odd)) l.initial.y l.y
+invariant-loop-i l = (l.i ≤ length l.initial.y) × Written l.i (turns l.even l.odd) l.initial.y l.y
 
 abbrev pub decreases-loop-i : goal.decreases-loop-i
 decreases-loop-i l = length l.initial.y - l.i
