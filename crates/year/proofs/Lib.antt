@@ -1,5 +1,4 @@
 -- What the program's proofs cite.
-mod Sizes
 mod Fronts
 mod Products
 mod Fitting

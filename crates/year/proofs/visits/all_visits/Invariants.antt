@@ -1,0 +1,12 @@
+-- `year::visits::all_visits` meets its contract. Assumes nothing.
+use Prim.Native.Nat.{◌-◌, ◌≤◌}
+use native.Mathlib.Omega.{arith}
+use borrow.Author.Rules.{rules}
+use Rattle.year.specs.Lent.{visits}
+use Rattle.year.proofs.visits.all_visits.Given as goal
+
+abbrev pub invariant-loop-i : goal.invariant-loop-i
+invariant-loop-i g l = l.i ≤ visits
+
+abbrev pub decreases-loop-i : goal.decreases-loop-i
+decreases-loop-i g l = visits - l.i
