@@ -56,7 +56,7 @@ pub file-requires : goal.file-requires
 file-requires c = let r = ready (goal.at.file-requires c).Start in (r.day.first, r.day.last, omega (arith, slot-inside (goal.at.file-requires c).After-find-s, r.whole.filed.most))
 
 pub find-s-requires-clause-capacity_bound : goal.find-s-requires-clause-capacity_bound
-find-s-requires-clause-capacity_bound c =  ((ready (goal.at.find-s-requires-clause-capacity_bound c).Start).whole.filed.most)
+find-s-requires-clause-capacity_bound c = ((ready (goal.at.find-s-requires-clause-capacity_bound c).Start).whole.filed.most)
 
 pub fill_slot-requires-clause-s_bound : goal.fill_slot-requires-clause-s_bound
 fill_slot-requires-clause-s_bound c =
@@ -64,12 +64,10 @@ fill_slot-requires-clause-s_bound c =
     let k = slot-inside (goal.at.fill_slot-requires-clause-s_bound c).After-find-s in
     rw c.full_period-period.ensures (omega (arith, k, r.whole.filed.most), period_small r.whole, slot_fits r.whole _ k)
 
-
 pub fill_slot-requires-clause-le_m : goal.fill_slot-requires-clause-le_m
 fill_slot-requires-clause-le_m c =
     let r = ready (goal.at.fill_slot-requires-clause-le_m c).Start in
     rw (c.full_period-period.ensures, c.periods_of-m.ensures, judged-is (goal.at.fill_slot-requires-clause-le_m c).After-periods_of-m) (r.heard.least, r.heard.most, judged_long r.heard, judged_small r.heard)
-
 
 pub fill_slot-requires-clause-period_in_bounds : goal.fill_slot-requires-clause-period_in_bounds
 fill_slot-requires-clause-period_in_bounds c =

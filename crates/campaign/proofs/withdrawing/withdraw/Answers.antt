@@ -53,14 +53,13 @@ returns c =
     c.find-s.ensures c.full_period.ensures c.file.ensures c.empty_slot.ensures.0 c.empty_slot.ensures.1
 
 pub find-s-requires-clause-capacity_bound : goal.find-s-requires-clause-capacity_bound
-find-s-requires-clause-capacity_bound c =  ((ready (goal.at.find-s-requires-clause-capacity_bound c).Else-refusal-ne0).whole.filed.most)
+find-s-requires-clause-capacity_bound c = ((ready (goal.at.find-s-requires-clause-capacity_bound c).Else-refusal-ne0).whole.filed.most)
 
 pub empty_slot-requires-clause-s_bound : goal.empty_slot-requires-clause-s_bound
 empty_slot-requires-clause-s_bound c =
     let r = ready (goal.at.empty_slot-requires-clause-s_bound c).Else-refusal-ne0 in
     let k = slot-inside (goal.at.empty_slot-requires-clause-s_bound c).After-find-s in
     rw c.full_period.ensures (omega (arith, k, r.whole.filed.most), period_small r.whole, slot_fits r.whole _ k)
-
 
 pub empty_slot-requires-clause-period_in_bounds : goal.empty_slot-requires-clause-period_in_bounds
 empty_slot-requires-clause-period_in_bounds c =

@@ -24,4 +24,4 @@ unfolding some
 near-zero k l = ltb-false 12 (nat_abs (at given k)) (none_of (λ i. ltb 12 (nat_abs (at given i))) 8 refl k l)
 
 pub write_means-requires-clause-by_index : goal.write_means-requires-clause-by_index
-write_means-requires-clause-by_index g c =  (λ k l. size_inside (rounded c.args.edition (at given k) 8) (rounded_bound c.args.edition (at given k) 8 8388607 (omega arith) (omega (arith, near-zero k l))))
+write_means-requires-clause-by_index g c = (λ k l. size_inside (rounded c.args.edition (at given k) 8) (rounded_bound c.args.edition (at given k) 8 8388607 (omega arith) (omega (arith, near-zero k l))))

@@ -106,6 +106,6 @@ take_row-requires-clause-row_in_bounds c =
     let a = c.args in
     let i = c.loop-s.invariant in
     let cleared = c.clear_wide.auto.v in ((
-        omega (arith, row_length a.period a.from a.count c.loop-s.s a.store.now a.capacity c.requires.capacity_bound.3 c.requires.count_bound.0 c.loop-s-test.true, i.1, c.requires.count_bound.1, cleared),
-        λ j h. found_small _ _ _ _ _ _ i.2 (omega (arith, c.requires.capacity_bound.0)) (λ t k. c.requires.by_index t (omega arith)) j (omega (arith, row_length a.period a.from a.count c.loop-s.s a.store.now a.capacity c.requires.capacity_bound.3 c.requires.count_bound.0 c.loop-s-test.true)),
-      ))
+      omega (arith, row_length a.period a.from a.count c.loop-s.s a.store.now a.capacity c.requires.capacity_bound.3 c.requires.count_bound.0 c.loop-s-test.true, i.1, c.requires.count_bound.1, cleared),
+      λ j h. found_small _ _ _ _ _ _ i.2 (omega (arith, c.requires.capacity_bound.0)) (λ t k. c.requires.by_index t (omega arith)) j (omega (arith, row_length a.period a.from a.count c.loop-s.s a.store.now a.capacity c.requires.capacity_bound.3 c.requires.count_bound.0 c.loop-s-test.true)),
+    ))

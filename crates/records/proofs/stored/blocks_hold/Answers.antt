@@ -10,11 +10,10 @@ use Rattle.records.proofs.Reading.{no_block, next_block, a_block}
 use Rattle.records.proofs.stored.blocks_hold.Goals as goal
 
 pub returns-then-not-block_holds : goal.returns-then-not-block_holds
-returns-then-not-block_holds c =
-    (
-      λ e. absurd (true≢false (sym e)),
-      λ b. absurd (true≢false (sym (c.block_holds.ensures.1 (a_block b (omega (arith, c.smaller-count.ensures)))) ∙ c.if-not-block_holds.true)),
-    )
+returns-then-not-block_holds c = (
+  λ e. absurd (true≢false (sym e)),
+  λ b. absurd (true≢false (sym (c.block_holds.ensures.1 (a_block b (omega (arith, c.smaller-count.ensures)))) ∙ c.if-not-block_holds.true)),
+)
 
 pub loop-from-preserved : goal.loop-from-preserved
 loop-from-preserved c =

@@ -33,4 +33,4 @@ loop-i-preserved c =
     )
 
 pub tag_step-tag-requires-clause-tag_bound : goal.tag_step-tag-requires-clause-tag_bound
-tag_step-tag-requires-clause-tag_bound c =  (tag-lt c)
+tag_step-tag-requires-clause-tag_bound c = (tag-lt c)

@@ -50,4 +50,4 @@ returns c =
 
 pub tag_step-tag-requires-clause-tag_bound : goal.tag_step-tag-requires-clause-tag_bound
 tag_step-tag-requires-clause-tag_bound c =
-     (rw c.loop-i.invariant.2 (tag-lt c.args.order c.args.taps c.requires.1 (c.args.m + c.loop-i.i)))
+    (rw c.loop-i.invariant.2 (tag-lt c.args.order c.args.taps c.requires.1 (c.args.m + c.loop-i.i)))

@@ -54,4 +54,4 @@ returns c =
     ∙ simp (le-ltb (length a.out.now) (P a.order) (omega (arith, c.full_period-count.ensures))))
 
 pub write_bits-requires-clause-order_bound : goal.write_bits-requires-clause-order_bound
-write_bits-requires-clause-order_bound c =  (small (goal.at.write_bits-requires-clause-order_bound c).Else-refusal-ne0)
+write_bits-requires-clause-order_bound c = (small (goal.at.write_bits-requires-clause-order_bound c).Else-refusal-ne0)

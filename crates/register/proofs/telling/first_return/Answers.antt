@@ -21,13 +21,12 @@ only N taps k t p l none here =
 
 pub loop-k-init : goal.loop-k-init
 unfolding window_of
-loop-k-init c =
-    (
-      omega arith,
-      omega (arith, c.full_period-ones.ensures, pow-lt c.requires.tapped.some),
-      window-next c.args.order c.args.taps 0 c.full_period-ones.ensures c.step-window.ensures,
-      λ i a b. absurd (omega arith),
-    )
+loop-k-init c = (
+  omega arith,
+  omega (arith, c.full_period-ones.ensures, pow-lt c.requires.tapped.some),
+  window-next c.args.order c.args.taps 0 c.full_period-ones.ensures c.step-window.ensures,
+  λ i a b. absurd (omega arith),
+)
 
 pub returns-then-window-ones : goal.returns-then-window-ones
 returns-then-window-ones c =

@@ -83,4 +83,4 @@ write_means-requires-clause-by_index c =
     let a = c.args in
     let r = ready (goal.at.write_means-requires-clause-by_index c).Else-refusal-ne0 in
     (λ k l.
-          ap₂ (λ z n. sample_out (rounded a.c.edition z n)) (ap (λ v. at v k) c.turn_sums.ensures.0 ∙ at-put (P a.c.order) (worked a.c a.sums.now) a.r.now k (pos 0) (omega (arith, c.full_period-period.ensures))) c.divisor_of-divisor.ensures ∙ mean_fits a.c a.store.now a.sums.now r.whole r.some k)
+    ap₂ (λ z n. sample_out (rounded a.c.edition z n)) (ap (λ v. at v k) c.turn_sums.ensures.0 ∙ at-put (P a.c.order) (worked a.c a.sums.now) a.r.now k (pos 0) (omega (arith, c.full_period-period.ensures))) c.divisor_of-divisor.ensures ∙ mean_fits a.c a.store.now a.sums.now r.whole r.some k)

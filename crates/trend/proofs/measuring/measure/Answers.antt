@@ -38,8 +38,7 @@ returns c =
     let N = c.args.order in
     let taps = c.args.taps in
     let v = c.spread_wide.new.room in
-    let a = c.requires.accepted.0 in
-    (
+    let a = c.requires.accepted.0 in (
       rw (c.transform_room.ensures, c.full_period-period.ensures) at c.read_extremes-extremes.ensures
           ∙ ap (extremes_of (P N)) (fun_ext (λ k. reads_at N taps v a k ∙ route N taps a (long (goal.at.returns c).After-spread_wide) c.spread_wide.ensures k)),
       rw c.full_period-period.ensures at c.clear_wide.ensures ∙ ap (cleared_wide (P N + 1)) c.transform_room.ensures ∙ cleared_again N c.spread_wide.ensures (spectrum N v),

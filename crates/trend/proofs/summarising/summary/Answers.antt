@@ -98,10 +98,10 @@ levels_of-requires-clause-highest_bound c =
     let r = ready (goal.at.levels_of-requires-clause-highest_bound c).Else-refusal-ne0 in
     let s = extremes_small a.c a.store.now a.sums.now r.whole in
     let e = c.measure-extremes.ensures.0 in ((
-        omega (arith, ap (λ x. nat_abs x.highest) e, s.0),
-        omega (arith, ap (λ x. nat_abs x.lowest) e, s.1),
-        omega (arith, ap (λ x. nat_abs x.peak) e, s.2),
-      ))
+      omega (arith, ap (λ x. nat_abs x.highest) e, s.0),
+      omega (arith, ap (λ x. nat_abs x.lowest) e, s.1),
+      omega (arith, ap (λ x. nat_abs x.peak) e, s.2),
+    ))
 
 pub levels_of-requires-clause-d_nonzero : goal.levels_of-requires-clause-d_nonzero
 levels_of-requires-clause-d_nonzero c =
