@@ -16,7 +16,7 @@ use Rattle.finding.specs.declared.Finding.{Finding}
 use Rattle.finding.specs.declared.Finding.TheVariants as found
 use Rattle.nights.specs.Nights.{periods_of}
 use Rattle.nights.specs.declared.Night.{Night}
-use Rattle.records.specs.Record.{standing, overloaded, dead, days_in}
+use Rattle.records.specs.Record.{standing, days_in}
 use Rattle.records.specs.declared.Campaign.{Campaign}
 use Rattle.judging.specs.Judging.{judged_of, case_of, same}
 use Rattle.judging.specs.declared.Judged.{Judged}

@@ -22,7 +22,7 @@ use Rattle.records.specs.Record.{standing, overloaded, dead, state, together, fr
 use Rattle.judging.specs.Judging.{judge_outcome}
 use Rattle.campaign.specs.Calls.{file_outcome, enter_outcome, withdraw_outcome}
 use Rattle.trend.specs.Calls.{response_outcome}
-use Rattle.history.specs.Run.{World, enter, withdraw, response, after, answer, run}
+use Rattle.history.specs.Run.{World, enter, withdraw, after, answer, run}
 use Rattle.campaign.specs.declared.Verdict.{Verdict}
 use Rattle.campaign.specs.declared.Verdict.TheVariants.{Kept, Overloaded, Dead, Refused}
 

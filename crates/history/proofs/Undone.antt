@@ -11,7 +11,6 @@ use lib.IntN.{ℤ, pos, ◌+ℤ◌, ◌-ℤ◌}
 use lib.ListN.{length, set}
 use lib.Seq.{ext_get_or, set-set, set-get_or}
 use Rattle.sums.specs.Lists.{at, table, put, put_at}
-use Rattle.sums.specs.Refusals.{first}
 use Rattle.sums.proofs.Everywhere.{length-put_at, put_at_before, put_at_here, put_at-after}
 use Rattle.sums.proofs.First.{accepts}
 use Rattle.sums.proofs.Ring.{ring}

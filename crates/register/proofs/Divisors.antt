@@ -12,7 +12,6 @@ use lib.Bits.{xor_lt}
 use lib.Dec.{eqb}
 use lib.Pow.{pow_pos, pow-add, pow_mono}
 use Rattle.sums.specs.Sum.{total}
-use Rattle.sums.specs.Lists.{some}
 use Rattle.sums.proofs.Everywhere.{both_true, or_left, or_right}
 use Rattle.sums.proofs.Seek.{First}
 use Rattle.sums.proofs.Somewhere.{some-none, some_at}

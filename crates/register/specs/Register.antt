@@ -1,6 +1,6 @@
 -- Document 01, "Sequence and register". A register of order N holds a window of N bits: bit i is the bit i steps ahead, and bit 0 goes
 -- out next. Taps are a mask whose bit i is a(i). Assumes nothing.
-use Rattle.std.specs.Prelude.{◌≡◌, Bool, ℕ, zero, suc, ◌+◌, ◌-◌, ◌*◌, ◌/◌, ◌%◌, ◌^◌, ◌≤◌, ◌<◌, ℤ, eqb}
+use Rattle.std.specs.Prelude.{◌≡◌, ℕ, zero, suc, ◌+◌, ◌-◌, ◌*◌, ◌/◌, ◌%◌, ◌^◌, ◌≤◌, ◌<◌, ℤ, eqb}
 use Rattle.std.specs.Int.Bits.{bit_and, bit_xor}
 use Rattle.std.specs.Int.Count.{ones}
 use Rattle.sums.specs.Sum.{sign}

@@ -4,10 +4,9 @@ use mathlib.Core.Bool.{Bool, true, false, cond, not}
 use mathlib.Core.List.{List, [], ◌∷◌}
 use Prim.Native.Nat.{ℕ}
 use native.Mathlib.Omega.{arith}
-use borrow.Author.Rules.{rules}
 use lib.IntN.{ℤ}
 use Rattle.sums.specs.Refusals.{first, outcome}
-use Rattle.sums.proofs.First.{passes, passed_first, refused_early, passed_early}
+use Rattle.sums.proofs.First.{passed_first, refused_early, passed_early}
 use Rattle.finding.specs.Finding.{finding}
 use Rattle.nights.specs.Nights.{periods_of}
 use Rattle.nights.specs.declared.Night.{Night}
@@ -18,7 +17,7 @@ use Rattle.records.specs.declared.Campaign.{Campaign}
 use Rattle.campaign.specs.Calls.{given_checks, enter_checks, judged_for, settled_of, term_of, entered, found_outcome, file_outcome, shown_as, shown_to}
 use Rattle.campaign.specs.declared.Entered.{Entered}
 use Rattle.campaign.specs.declared.Verdict.TheVariants as verdict
-use Rattle.campaign.proofs.Passing.{in_day, judged_found}
+use Rattle.campaign.proofs.Passing.{judged_found}
 use Rattle.campaign.proofs.entering.file_found.Goals as goal
 use Rattle.campaign.proofs.entering.file_found.Goals.{After-contradicts, Else-day_stands}
 

@@ -2,17 +2,16 @@
 use mathlib.Core.Path.{◌≡◌, sym, ap, ◌∙◌}
 use mathlib.Core.List.{List, [], ◌∷◌, ◌++◌}
 use Prim.Native.Nat.{ℕ}
-use borrow.Author.Rules.{rules}
 use lib.IntN.{ℤ}
 use mathlib.Core.Bool.{Bool, not}
 use Rattle.sums.specs.Refusals.{first}
-use Rattle.sums.proofs.First.{passes, passed_first, refused_early, passed_early}
+use Rattle.sums.proofs.First.{passes, refused_early, passed_early}
 use Rattle.finding.specs.Finding.{finding}
 use Rattle.nights.specs.Nights.{periods_of}
 use Rattle.nights.specs.declared.Night.{Night}
 use Rattle.judging.specs.Judging.{night_checks, same}
 use Rattle.judging.specs.declared.Judged.{Judged}
-use Rattle.judging.proofs.Heard.{refused_heard, found_heard}
+use Rattle.judging.proofs.Heard.{refused_heard}
 use Rattle.records.specs.Record.{stands}
 use Rattle.records.specs.declared.Campaign.{Campaign}
 use Rattle.records.proofs.Holding.{not_apart}

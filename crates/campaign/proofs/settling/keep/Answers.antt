@@ -1,24 +1,15 @@
 -- `campaign::settling::keep` meets its contract. Assumes nothing.
-use mathlib.Core.Path.{◌≡◌, refl, sym, ap, ◌∙◌}
-use mathlib.Core.List.{List, [], ◌∷◌}
-use Prim.Native.Nat.{ℕ, ◌-◌, ◌*◌, ◌≤◌, ◌<◌}
+use mathlib.Core.Path.{◌≡◌, ap, ◌∙◌}
+use Prim.Native.Nat.{◌-◌, ◌*◌, ◌<◌}
 use native.Mathlib.Omega.{arith}
-use borrow.Author.Rules.{rules}
-use borrow.Author.Tests.{eq-eqb, ne_eqb}
-use lib.IntN.{ℤ, ◌+ℤ◌}
 use lib.ListN.{length, take, drop}
-use Rattle.sums.specs.Lists.{at, table, put, put_at}
-use Rattle.sums.specs.Refusals.{outcome}
 use borrow.Author.Rules.{part_to_end}
-use Rattle.nights.specs.Nights.{lead, periods_of}
+use Rattle.nights.specs.Nights.{lead}
 use Rattle.register.specs.Register.{P}
-use Rattle.records.specs.Record.{standing, days_in, filed}
-use Rattle.campaign.specs.Calls.{settled_of, term_of, entered, lowest_free, kept_outcome, stayed_outcome}
-use Rattle.records.specs.declared.Campaign.{Campaign}
-use Rattle.campaign.specs.declared.Entered.{Entered}
-use Rattle.campaign.specs.declared.Verdict.TheVariants as verdict
+use Rattle.records.specs.Record.{standing, days_in}
+use Rattle.campaign.specs.Calls.{settled_of}
 use Rattle.records.proofs.Loops.{days_in_is}
-use Rattle.judging.proofs.Heard.{run_in_fits, judged_long, judged_small}
+use Rattle.judging.proofs.Heard.{judged_long, judged_small}
 use Rattle.campaign.proofs.Passing.{Enters, enters, period_small, slot_fits, sums_small, lowest-free}
 use Rattle.campaign.proofs.settling.keep.Goals as goal
 use Rattle.campaign.proofs.settling.keep.Goals.{After-days_in, After-find-s, After-periods_of-m, After-run_in-from, Else-days_in-capacity, Start}

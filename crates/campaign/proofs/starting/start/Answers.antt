@@ -1,10 +1,7 @@
 -- `campaign::starting::start` meets its contract. Assumes nothing.
 use mathlib.Core.Path.{◌≡◌, refl, sym, ap, ◌∙◌}
 use mathlib.Core.List.{List}
-use Prim.Native.Nat.{ℕ, ◌*◌, ◌≤◌}
-use native.Mathlib.Nat.{mul-le-mul}
-use native.Mathlib.Omega.{arith}
-use borrow.Author.Rules.{rules}
+use Prim.Native.Nat.{ℕ, ◌*◌}
 use lib.IntN.{ℤ}
 use Rattle.sums.specs.Refusals.{first}
 use Rattle.sums.proofs.First.{refused_with, accepted_with}
@@ -12,13 +9,11 @@ use Rattle.register.specs.Register.{P}
 use Rattle.register.specs.Calls.{answer_of, Reached}
 use Rattle.register.specs.declared.Answer.{Answer}
 use Rattle.register.proofs.HowShort.{reached}
-use Rattle.register.proofs.Word.{small}
 use Rattle.samples.specs.Samples.{cleared_wide}
 use Rattle.records.specs.Record.{fresh}
 use Rattle.campaign.specs.Calls.{start_checks, start_outcome}
 use Rattle.records.specs.declared.Campaign.{Campaign}
 use Rattle.campaign.specs.declared.Started.{Started}
-use Rattle.campaign.proofs.Passing.{Begins, begins}
 use Rattle.campaign.proofs.starting.start.Goals as goal
 
 module _ (c : Campaign) (N taps C E : ℕ) (store sums : List ℤ) (n : ℕ) (e : n ≡ first (start_checks N taps C E store sums)) where

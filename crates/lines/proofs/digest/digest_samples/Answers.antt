@@ -1,11 +1,8 @@
 -- `lines::digest::digest_samples` meets its contract: after j turns d is the digest of the first j. Assumes nothing.
-use mathlib.Core.Path.{◌≡◌, sym, ap, ◌∙◌}
-use Prim.Native.Nat.{◌-◌, ◌≤◌}
+use mathlib.Core.Path.{sym}
 use native.Mathlib.Omega.{arith}
-use lib.ListN.{length}
 use Rattle.sums.specs.Lists.{at}
-use Rattle.sums.proofs.Bound.{wide, wide_fits}
-use Rattle.lines.specs.Digest.{digest}
+use Rattle.sums.proofs.Bound.{wide}
 use Rattle.lines.proofs.Folding.{digest-none, digest-lt, digest_more}
 use Rattle.lines.proofs.digest.digest_samples.Goals as goal
 

@@ -1,12 +1,9 @@
 -- `lines::digest::digest_samples` meets its contract: after j turns d is the digest of the first j. Assumes nothing.
-use mathlib.Core.Path.{◌≡◌, sym, ap, ◌∙◌}
+use mathlib.Core.Path.{◌≡◌}
 use Prim.Native.Nat.{◌-◌, ◌≤◌}
-use native.Mathlib.Omega.{arith}
 use lib.ListN.{length}
 use Rattle.sums.specs.Lists.{at}
-use Rattle.sums.proofs.Bound.{wide, wide_fits}
 use Rattle.lines.specs.Digest.{digest}
-use Rattle.lines.proofs.Folding.{digest-none, digest-lt, digest_more}
 use Rattle.lines.proofs.digest.digest_samples.Given as goal
 
 abbrev pub invariant-loop-j : goal.invariant-loop-j

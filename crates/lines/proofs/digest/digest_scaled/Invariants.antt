@@ -1,17 +1,11 @@
 -- `lines::digest::digest_scaled` meets its contract: after j turns d is the digest of the first j. Assumes nothing.
-use mathlib.Core.Path.{◌≡◌, sym, ap, ap₂, ◌∙◌}
-use Prim.Native.Nat.{ℕ, ◌-◌, ◌^◌, ◌≤◌, ◌<◌}
-use native.Mathlib.Omega.{arith}
+use mathlib.Core.Path.{◌≡◌}
+use Prim.Native.Nat.{ℕ, ◌-◌, ◌≤◌}
 use lib.ListN.{length}
 use mathlib.Core.List.{List}
 use lib.IntN.{ℤ, pos, ◌*ℤ◌}
-use mir.Syntax.{w32, w64}
-use mir.Val.{to_z, of_z}
-use mir.Facts.{to_z-of_z, to_z_pos}
 use Rattle.sums.specs.Lists.{at}
-use Rattle.sums.proofs.Bound.{wide, wide_fits}
 use Rattle.lines.specs.Digest.{digest}
-use Rattle.lines.proofs.Folding.{product_fits, digest-none, digest-lt, digest_more}
 use Rattle.lines.proofs.digest.digest_scaled.Given as goal
 
 -- what is digested

@@ -1,13 +1,10 @@
 -- `lines::digest::digest_tags` meets its contract: after j turns d is the digest of the first j. Assumes nothing.
-use mathlib.Core.Path.{◌≡◌, sym, ap, ◌∙◌}
+use mathlib.Core.Path.{◌≡◌}
 use mathlib.Core.List.{List}
 use Prim.Native.Nat.{ℕ, ◌-◌, ◌≤◌}
-use native.Mathlib.Omega.{arith}
 use lib.IntN.{ℤ, pos}
 use lib.ListN.{length, get_or}
-use mir.Facts.{to_z-of_z}
 use Rattle.lines.specs.Digest.{digest}
-use Rattle.lines.proofs.Folding.{digest-none, digest-lt, digest_more}
 use Rattle.lines.proofs.digest.digest_tags.Given as goal
 
 abbrev pub tag : List ℕ → ℕ → ℤ

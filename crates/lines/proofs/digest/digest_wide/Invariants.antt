@@ -1,13 +1,9 @@
 -- `lines::digest::digest_wide` meets its contract: after j turns d is the digest of the first j. Assumes nothing.
-use mathlib.Core.Path.{◌≡◌, sym, ap, ◌∙◌}
+use mathlib.Core.Path.{◌≡◌}
 use Prim.Native.Nat.{◌-◌, ◌≤◌}
-use native.Mathlib.Omega.{arith}
 use lib.ListN.{length}
-use mir.Syntax.{w64}
 use Rattle.sums.specs.Lists.{at}
-use Rattle.sums.proofs.Bound.{read}
 use Rattle.lines.specs.Digest.{digest}
-use Rattle.lines.proofs.Folding.{digest-none, digest-lt, digest_more}
 use Rattle.lines.proofs.digest.digest_wide.Given as goal
 
 abbrev pub invariant-loop-j : goal.invariant-loop-j

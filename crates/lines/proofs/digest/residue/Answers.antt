@@ -1,5 +1,4 @@
 -- `lines::digest::residue` meets its contract. Assumes nothing.
-use borrow.Author.Rules.{rules}
 use mathlib.Core.Path.{◌≡◌}
 use mathlib.Core.Bool.{false}
 use native.Mathlib.Nat.{mod-lt}
@@ -9,7 +8,6 @@ use lib.Signed.{lt_z}
 use mir.Syntax.{w64}
 use mir.Val.{to_z, of_z}
 use mir.ValLaws.{to_z-of_z}
-use Rattle.sums.proofs.Bound.{is_non_neg, nat_abs-≤}
 use Rattle.lines.proofs.Folding.{residue_negative, residue_positive}
 use Rattle.lines.proofs.digest.residue.Goals as goal
 use Rattle.lines.proofs.digest.residue.Goals.{Else-v-lt0, Start}

@@ -3,7 +3,6 @@ use mathlib.Core.Path.{◌≡◌, refl, sym, ◌∙◌}
 use mathlib.Core.Bool.{Bool}
 use mathlib.Core.List.{List, [], ◌∷◌}
 use Prim.Native.Nat.{ℕ}
-use borrow.Author.Rules.{rules}
 use Rattle.sums.specs.Refusals.{first}
 use Rattle.sums.proofs.First.{refused_first, passed_first}
 use Rattle.register.specs.Calls.{taps_checks, taps_answer}

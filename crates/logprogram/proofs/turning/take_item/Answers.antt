@@ -2,12 +2,9 @@
 use mathlib.Core.Path.{ap}
 use Prim.Native.Nat.{◌≤◌}
 use native.Mathlib.Omega.{arith}
-use borrow.Author.Rules.{rules}
-use Rattle.report.proofs.Writing.{wrote_inside}
 use Rattle.logeffects.specs.Book.{Memory, memory}
 use Rattle.logeffects.specs.declared.Applied.{Applied}
 use Rattle.logeffects.proofs.Rows.{rows_few}
-use Rattle.logprogram.proofs.Rows.{took-made}
 use Rattle.logprogram.proofs.turning.take_item.Goals as goal
 use Rattle.logprogram.proofs.turning.take_item.Goals.{After-apply-done}
 

@@ -1,14 +1,11 @@
 -- `logprogram::turning::take_turn` meets its contract: each case is the turn on what was found. Assumes nothing.
 use mathlib.Core.Path.{◌≡◌, sym, ap, subst, ◌∙◌}
-use native.Mathlib.Omega.{arith}
-use borrow.Author.Rules.{rules}
 use Rattle.logitems.specs.Log.{decoded}
 use Rattle.logitems.specs.declared.Found.{Found}
 use Rattle.logitems.specs.declared.Found.TheVariants as found
 use Rattle.logitems.proofs.Finding.{fits_kind, whole_size, whole_fits}
 use Rattle.logeffects.specs.Book.{memory}
 use Rattle.logprogram.specs.Program.{Place, place_of, stands_at, turn_on, turn}
-use Rattle.logprogram.specs.declared.Turned.{Turned}
 use Rattle.logprogram.proofs.Turns.{StandsAt, found_at, turn_by}
 use Rattle.logprogram.proofs.turning.take_turn.Goals as goal
 use Rattle.logprogram.proofs.turning.take_turn.Goals.{After-decode-found}

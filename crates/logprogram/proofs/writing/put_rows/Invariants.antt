@@ -1,15 +1,9 @@
 -- `logprogram::writing::put_rows` meets its contract. The measure is the lines that are left. Assumes nothing.
-use mathlib.Core.Path.{◌≡◌, refl, ap₂, ◌∙◌}
+use mathlib.Core.Path.{◌≡◌}
 use Prim.Native.Nat.{◌+◌, ◌-◌, ◌*◌, ◌≤◌}
-use native.Mathlib.Omega.{arith}
-use borrow.Author.Rules.{rules}
 use lib.ListN.{length}
-use mir.Syntax.{w64}
-use Rattle.sums.specs.Lists as lists
-use Rattle.sums.proofs.Bound.{wide_fits, wide, read}
-use Rattle.report.specs.Lines.{row_bytes, Wrote}
+use Rattle.report.specs.Lines.{Wrote}
 use Rattle.logprogram.specs.Program.{rows_bytes}
-use Rattle.logprogram.proofs.Rows.{rows_none, rows_more}
 use Rattle.logprogram.proofs.writing.put_rows.Given as goal
 
 abbrev pub invariant-loop-k : goal.invariant-loop-k

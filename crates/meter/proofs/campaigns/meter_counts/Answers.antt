@@ -3,7 +3,6 @@ use mathlib.Core.Path.{◌≡◌, sym, ap, ◌∙◌}
 use mathlib.Core.Bool.{true, false}
 use mathlib.Core.List.{List}
 use Prim.Native.Nat.{ℕ}
-use borrow.Author.Rules.{rules}
 use lib.IntN.{ℤ}
 use Rattle.sums.specs.Refusals.{meant}
 use Rattle.records.specs.declared.Campaign.{Campaign}
@@ -11,7 +10,7 @@ use Rattle.trend.specs.declared.Tally.{Tally}
 use Rattle.trend.specs.declared.Counts.{Counts}
 use Rattle.trend.specs.Calls.{counts_outcome, counts_means}
 use Rattle.meter.specs.Doors.{tables_short, record_of, counted_out, counts_door}
-use Rattle.meter.proofs.Opening.{shut, through, long}
+use Rattle.meter.proofs.Opening.{shut, through}
 use Rattle.meter.proofs.campaigns.meter_counts.Goals as goal
 use Rattle.meter.proofs.campaigns.meter_counts.Goals.{Else-tables_short, Start}
 

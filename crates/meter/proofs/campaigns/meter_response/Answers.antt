@@ -3,12 +3,11 @@ use mathlib.Core.Path.{◌≡◌, refl, sym, ap, ◌∙◌}
 use mathlib.Core.Bool.{true, false}
 use mathlib.Core.List.{List}
 use Prim.Native.Nat.{ℕ}
-use borrow.Author.Rules.{rules}
 use lib.IntN.{ℤ}
 use Rattle.records.specs.declared.Campaign.{Campaign}
 use Rattle.trend.specs.Calls.{response_outcome}
 use Rattle.meter.specs.Doors.{tables_short, record_of, response_door}
-use Rattle.meter.proofs.Opening.{shut, through, long}
+use Rattle.meter.proofs.Opening.{shut, through}
 use Rattle.meter.proofs.campaigns.meter_response.Goals as goal
 use Rattle.meter.proofs.campaigns.meter_response.Goals.{Else-tables_short}
 

@@ -3,19 +3,17 @@ use mathlib.Core.Path.{◌≡◌, refl, sym, ap, ◌∙◌}
 use mathlib.Core.Bool.{true, false}
 use mathlib.Core.List.{List, []}
 use Prim.Native.Nat.{ℕ}
-use borrow.Author.Rules.{rules}
 use lib.IntN.{ℤ}
 use Rattle.sums.specs.Lists.{put}
 use Rattle.sums.specs.Refusals.{first}
 use Rattle.sums.proofs.First.{refused_with}
 use Rattle.register.specs.Calls.{told}
-use Rattle.register.proofs.HowShort.{reached, period-told, passed_on}
+use Rattle.register.proofs.HowShort.{period-told, passed_on}
 use Rattle.records.specs.declared.Campaign.{Campaign}
 use Rattle.campaign.specs.declared.Started.{Started}
 use Rattle.campaign.specs.Calls.{start_checks, start_outcome}
 use Rattle.campaign.proofs.Passing.{start_tells}
 use Rattle.meter.specs.Doors.{tables_short, record_of, start_door_checks, start_door}
-use Rattle.meter.proofs.Opening.{long}
 use Rattle.meter.proofs.Telling.{handed_on}
 use Rattle.meter.proofs.Starting.{started_out, short_refused, short_some, start_opened}
 use Rattle.meter.proofs.campaigns.meter_start.Goals as goal

@@ -3,7 +3,6 @@ use mathlib.Core.Path.{◌≡◌, sym, ap, ◌∙◌}
 use mathlib.Core.Bool.{true, false}
 use mathlib.Core.List.{List}
 use Prim.Native.Nat.{ℕ}
-use borrow.Author.Rules.{rules}
 use lib.IntN.{ℤ}
 use Rattle.sums.specs.Refusals.{meant}
 use Rattle.records.specs.declared.Campaign.{Campaign}
@@ -11,7 +10,7 @@ use Rattle.trend.specs.declared.Levels.{Levels}
 use Rattle.trend.specs.declared.Summary.{Summary}
 use Rattle.trend.specs.Calls.{summary_outcome, summary_means}
 use Rattle.meter.specs.Doors.{tables_short, record_of, summed_out, summary_door}
-use Rattle.meter.proofs.Opening.{shut, through, long}
+use Rattle.meter.proofs.Opening.{shut, through}
 use Rattle.meter.proofs.campaigns.meter_summary.Goals as goal
 use Rattle.meter.proofs.campaigns.meter_summary.Goals.{Else-tables_short, Start}
 

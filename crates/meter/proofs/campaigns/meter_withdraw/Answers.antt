@@ -3,14 +3,13 @@ use mathlib.Core.Path.{◌≡◌, sym, ap, ◌∙◌}
 use mathlib.Core.Bool.{true, false}
 use mathlib.Core.List.{List}
 use Prim.Native.Nat.{ℕ}
-use borrow.Author.Rules.{rules}
 use lib.IntN.{ℤ}
 use Rattle.sums.specs.Lists.{put}
 use Rattle.records.specs.declared.Campaign.{Campaign}
 use Rattle.campaign.specs.declared.Withdrawn.{Withdrawn}
 use Rattle.campaign.specs.Calls.{withdraw_outcome}
 use Rattle.meter.specs.Doors.{tables_short, record_of, withdrawn_out, withdraw_door}
-use Rattle.meter.proofs.Opening.{shut, through, long}
+use Rattle.meter.proofs.Opening.{shut, through}
 use Rattle.meter.proofs.campaigns.meter_withdraw.Goals as goal
 use Rattle.meter.proofs.campaigns.meter_withdraw.Goals.{Else-tables_short}
 

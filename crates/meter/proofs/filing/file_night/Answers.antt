@@ -3,7 +3,6 @@ use mathlib.Core.Path.{◌≡◌, sym, ap, ◌∙◌}
 use mathlib.Core.Bool.{true, false}
 use mathlib.Core.List.{List}
 use Prim.Native.Nat.{ℕ}
-use borrow.Author.Rules.{rules}
 use lib.IntN.{ℤ}
 use Rattle.sums.specs.Lists.{put}
 use Rattle.sums.specs.Refusals.{meant}
@@ -13,7 +12,7 @@ use Rattle.campaign.specs.declared.Entered.{Entered}
 use Rattle.campaign.specs.declared.Shown.{Shown}
 use Rattle.campaign.specs.Calls.{file_outcome, shown_to, verdict_means}
 use Rattle.meter.specs.Doors.{tables_short, record_of, entered_out, file_door}
-use Rattle.meter.proofs.Opening.{shut, through, long}
+use Rattle.meter.proofs.Opening.{shut, through}
 use Rattle.meter.proofs.filing.file_night.Goals as goal
 use Rattle.meter.proofs.filing.file_night.Goals.{Else-tables_short}
 

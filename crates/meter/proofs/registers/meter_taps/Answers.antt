@@ -1,5 +1,4 @@
 -- `meter::registers::meter_taps` meets its contract. Assumes nothing.
-use borrow.Author.Rules.{rules}
 use mathlib.Core.Path.{refl}
 use Prim.Native.Nat.{ℕ}
 use Rattle.register.proofs.HowShort.{passed_on}

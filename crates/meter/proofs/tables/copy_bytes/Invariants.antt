@@ -1,10 +1,7 @@
 -- `meter::tables::copy_bytes` meets its contract: after i turns the first i are copied. Assumes nothing.
-use mathlib.Core.Path.{refl}
 use Prim.Native.Nat.{◌≤◌, ◌-◌}
-use native.Mathlib.Omega.{arith}
 use lib.ListN.{length, get_or}
-use Rattle.sums.proofs.Tables.{Written, written_none, written_more, written_length}
-use Rattle.meter.proofs.Copying.{copied}
+use Rattle.sums.proofs.Tables.{Written}
 use Rattle.meter.proofs.tables.copy_bytes.Given as goal
 
 abbrev pub invariant-loop-i : goal.invariant-loop-i

@@ -1,10 +1,7 @@
 -- `meter::tables::copy_slots` meets its contract: after s turns the first s are copied. Assumes nothing.
-use mathlib.Core.Path.{refl}
 use Prim.Native.Nat.{◌≤◌, ◌-◌}
-use native.Mathlib.Omega.{arith}
 use lib.ListN.{length, get_or}
-use Rattle.sums.proofs.Tables.{Written, written_none, written_more, written_length}
-use Rattle.meter.proofs.Copying.{copied}
+use Rattle.sums.proofs.Tables.{Written}
 use Rattle.meter.proofs.tables.copy_slots.Given as goal
 
 abbrev pub invariant-loop-s : goal.invariant-loop-s

@@ -1,18 +1,12 @@
 -- `meterlog::running::run` meets its contract: the bytes at hand lie in the buffer, the offset has room for every turn that is left, and the
 -- program is where turns from the beginning lead. Assumes nothing.
-use mathlib.Core.Path.{◌≡◌, refl, sym, ap, subst, ◌∙◌}
+use mathlib.Core.Path.{◌≡◌}
 use mathlib.Core.Bool.{false}
-use mathlib.Core.List.{List}
-use Prim.Native.Nat.{ℕ, ◌+◌, ◌*◌, ◌≤◌}
-use native.Mathlib.Omega.{arith}
-use lib.Dec.{T}
-use lib.IntN.{ℤ, pos}
-use lib.ListN.{length, length-replicate}
-use Rattle.logeffects.specs.Book.{Memory, memory}
-use Rattle.logprogram.specs.Program.{Place}
+use Prim.Native.Nat.{◌+◌, ◌*◌, ◌≤◌}
+use Rattle.logeffects.specs.Book.{memory}
 use Rattle.logprogram.specs.Reads.{most_turns}
 use Rattle.meterlog.specs.Buffer.{midway, Inside}
-use Rattle.meterlog.proofs.Steps.{offset_after, fewer, goes, Held, held_first, held_step, held_last}
+use Rattle.meterlog.proofs.Steps.{Held}
 use Rattle.meterlog.proofs.running.run.Given as goal
 
 abbrev pub invariant-loop-turns : goal.invariant-loop-turns

@@ -1,12 +1,9 @@
 -- `nights::summing::copy_in` meets its contract: after j turns the first j samples are those passed. Assumes nothing.
-use mathlib.Core.Path.{◌≡◌}
-use Prim.Native.Nat.{◌≤◌, ◌-◌}
 use native.Mathlib.Omega.{arith}
-use lib.ListN.{length}
 use mir.Syntax.{w32}
 use Rattle.sums.specs.Lists.{at}
 use Rattle.sums.proofs.Bound.{read}
-use Rattle.sums.proofs.Tables.{Written, written_none, written_more, written_length}
+use Rattle.sums.proofs.Tables.{written_none, written_more}
 use Rattle.nights.proofs.summing.copy_in.Goals as goal
 
 pub loop-j-init : goal.loop-j-init

@@ -1,12 +1,8 @@
 -- `nights::summing::copy_in` meets its contract: after j turns the first j samples are those passed. Assumes nothing.
-use mathlib.Core.Path.{◌≡◌}
 use Prim.Native.Nat.{◌≤◌, ◌-◌}
-use native.Mathlib.Omega.{arith}
 use lib.ListN.{length}
-use mir.Syntax.{w32}
 use Rattle.sums.specs.Lists.{at}
-use Rattle.sums.proofs.Bound.{read}
-use Rattle.sums.proofs.Tables.{Written, written_none, written_more, written_length}
+use Rattle.sums.proofs.Tables.{Written}
 use Rattle.nights.proofs.summing.copy_in.Given as goal
 
 abbrev pub invariant-loop-j : goal.invariant-loop-j

@@ -1,8 +1,5 @@
 -- `numbers::checks::all_taps_line` meets its contract: the digest stays below its modulus, and no more are accepted than there are taps. Assumes nothing.
-use borrow.Author.Rules.{rules}
 use Prim.Native.Nat.{◌-◌, ◌≤◌, ◌<◌}
-use native.Mathlib.Omega.{arith}
-use Rattle.register.proofs.Word.{small}
 use Rattle.numbers.proofs.checks.all_taps_line.Given as goal
 
 abbrev pub invariant-loop-taps : goal.invariant-loop-taps

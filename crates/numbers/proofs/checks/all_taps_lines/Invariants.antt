@@ -1,6 +1,5 @@
 -- `numbers::checks::all_taps_lines` meets its contract: the order goes up to 13. Assumes nothing.
 use Prim.Native.Nat.{◌-◌, ◌≤◌}
-use native.Mathlib.Omega.{arith}
 use Rattle.numbers.proofs.checks.all_taps_lines.Given as goal
 
 abbrev pub invariant-loop-order : goal.invariant-loop-order

@@ -1,6 +1,5 @@
 -- `numbers::checks::default_lines` meets its contract: the order goes up to 19. Assumes nothing.
 use Prim.Native.Nat.{◌-◌, ◌≤◌}
-use native.Mathlib.Omega.{arith}
 use Rattle.numbers.proofs.checks.default_lines.Given as goal
 
 abbrev pub invariant-loop-order : goal.invariant-loop-order

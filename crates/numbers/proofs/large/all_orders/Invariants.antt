@@ -1,9 +1,7 @@
 -- `numbers::large::all_orders` meets its contract: the order goes up to 17, and the buffers keep their lengths. Assumes nothing.
-use mathlib.Core.Path.{◌≡◌, refl}
+use mathlib.Core.Path.{◌≡◌}
 use Prim.Native.Nat.{◌-◌, ◌≤◌}
-use native.Mathlib.Omega.{arith}
 use lib.ListN.{length}
-use borrow.Author.Rules.{rules}
 use Rattle.numbers.proofs.large.all_orders.Given as goal
 
 abbrev pub invariant-loop-order : goal.invariant-loop-order

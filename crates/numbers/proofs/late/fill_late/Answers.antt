@@ -1,15 +1,12 @@
 -- `numbers::late::fill_late` meets its contract: after j turns the first j numbers are those that stood d places further on. Assumes nothing.
 use mathlib.Core.Path.{◌≡◌, ap, ◌∙◌}
-use Prim.Native.Nat.{◌-◌, ◌*◌, ◌/◌, ◌≤◌, ◌<◌}
-use native.Mathlib.Nat.{mod-lt, div-add-mod'}
 use native.Mathlib.Omega.{arith}
 use lib.ListN.{length}
 use mir.Syntax.{w32}
 use Rattle.sums.specs.Lists.{at, table}
 use Rattle.sums.specs.Turned.{onward, late}
 use Rattle.sums.proofs.Bound.{read}
-use Rattle.sums.proofs.Tables.{Written, written_none, written_more, written_length, written_all}
-use Rattle.sums.proofs.Turned.{onward_permutes}
+use Rattle.sums.proofs.Tables.{written_none, written_more, written_all}
 use Rattle.numbers.proofs.late.fill_late.Goals as goal
 
 pub loop-j-init : goal.loop-j-init

@@ -1,8 +1,6 @@
 -- `numbers::late::short_lines` meets its contract: d goes up to 7, and the recordings keep their lengths. Assumes nothing.
 use mathlib.Core.Path.{◌≡◌}
 use Prim.Native.Nat.{◌-◌, ◌≤◌}
-use native.Mathlib.Omega.{arith}
-use borrow.Author.Rules.{rules}
 use lib.ListN.{length}
 use Rattle.numbers.proofs.late.short_lines.Given as goal
 

@@ -1,8 +1,6 @@
 -- `numbers::late::short_nights` meets its contract: d goes up to 7, and the room keeps its length. Assumes nothing.
-use mathlib.Core.Path.{◌≡◌, refl}
+use mathlib.Core.Path.{◌≡◌}
 use Prim.Native.Nat.{◌-◌, ◌≤◌}
-use native.Mathlib.Omega.{arith}
-use borrow.Author.Rules.{rules}
 use lib.ListN.{length}
 use Rattle.numbers.proofs.late.short_nights.Given as goal
 

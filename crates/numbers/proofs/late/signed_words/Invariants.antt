@@ -1,6 +1,5 @@
 -- `numbers::late::signed_words` meets its contract. Assumes nothing.
 use Prim.Native.Nat.{◌-◌, ◌≤◌}
-use native.Mathlib.Omega.{arith}
 use lib.ListN.{length}
 use Rattle.numbers.proofs.late.signed_words.Given as goal
 

@@ -1,14 +1,11 @@
 -- `numbers::signals::fill_turns` meets its contract: after i turns the first i numbers are written. Assumes nothing.
 use mathlib.Core.Path.{◌≡◌, ◌∙◌}
-use Prim.Native.Nat.{◌≤◌, ◌-◌}
 use native.Mathlib.Omega.{arith}
 use lib.ListN.{length}
 use mir.Syntax.{w32}
-use mir.Val.{to_z}
 use mir.Facts.{to_z-of_z}
 use Rattle.sums.proofs.Bound.{read}
-use Rattle.sums.proofs.Tables.{Written, written_none, written_more, written_length, written_all}
-use Rattle.numbers.specs.Signals.{turns}
+use Rattle.sums.proofs.Tables.{written_none, written_more, written_length, written_all}
 use Rattle.numbers.proofs.signals.fill_turns.Goals as goal
 use Rattle.numbers.proofs.signals.fill_turns.Goals.{After-turn}
 

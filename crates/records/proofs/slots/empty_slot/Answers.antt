@@ -1,8 +1,6 @@
 -- `records::slots::empty_slot` meets its contract. Assumes nothing.
 use mathlib.Core.Path.{ap, ◌∙◌}
 use Prim.Native.Nat.{◌+◌, ◌-◌, ◌*◌}
-use native.Mathlib.Omega.{arith}
-use borrow.Author.Rules.{rules}
 use borrow.Rule.Slice.PartMut.{mid_of}
 use lib.IntN.{pos, ◌-ℤ◌}
 use Rattle.sums.specs.Lists.{at, table, put}

@@ -1,6 +1,5 @@
 -- `records::stored::block_holds` meets its contract: slot by slot, `ReadSo`. Assumes nothing.
 use mathlib.Core.Path.{◌≡◌, refl, sym, ap, ◌∙◌}
-use borrow.Author.Tests.{not-true, not-false}
 use mathlib.Core.Bool.{true≢false}
 use Prim.Native.Nat.{ℕ, ◌+◌, ◌-◌, ◌*◌, ◌≤◌, ◌<◌}
 use native.Mathlib.Nat.{mul-le-mul_right, suc-mul}
@@ -13,7 +12,7 @@ use Rattle.sums.specs.Lists.{at, every}
 use Rattle.sums.proofs.Tables.{at-put}
 use Rattle.sums.specs.Equal.{eq_z}
 use Rattle.sums.proofs.Everywhere.{every_ext}
-use Rattle.records.proofs.Reading.{ReadSo, tested, none_read, row_at, more_read, row_refutes, sums_hold_lem, sums_pass, found_small}
+use Rattle.records.proofs.Reading.{tested, none_read, row_at, more_read, row_refutes, sums_hold_lem, sums_pass, found_small}
 use Rattle.records.proofs.stored.block_holds.Goals as goal
 use Rattle.records.proofs.stored.block_holds.Goals.{After-same_sums, After-take_row}
 

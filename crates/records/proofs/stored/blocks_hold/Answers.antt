@@ -1,12 +1,8 @@
 -- `records::stored::blocks_hold` meets its contract: the places before `from` hold together. Assumes nothing.
-use mathlib.Core.Path.{◌≡◌, refl, sym, ◌∙◌}
+use mathlib.Core.Path.{sym, ◌∙◌}
 use mathlib.Core.Bool.{true≢false}
-use borrow.Author.Tests.{not-true, not-false}
-use Prim.Native.Nat.{◌-◌, ◌≤◌}
 use native.Mathlib.Omega.{arith}
-use lib.ListN.{length}
-use Rattle.records.specs.Blocks.{Block}
-use Rattle.records.proofs.Reading.{no_block, next_block, a_block}
+use Rattle.records.proofs.Reading.{next_block, a_block}
 use Rattle.records.proofs.stored.blocks_hold.Goals as goal
 
 pub returns-then-not-block_holds : goal.returns-then-not-block_holds

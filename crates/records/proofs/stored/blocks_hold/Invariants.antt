@@ -1,12 +1,8 @@
 -- `records::stored::blocks_hold` meets its contract: the places before `from` hold together. Assumes nothing.
-use mathlib.Core.Path.{◌≡◌, refl, sym, ◌∙◌}
-use mathlib.Core.Bool.{true≢false}
-use borrow.Author.Tests.{not-true, not-false}
+use mathlib.Core.Path.{◌≡◌}
 use Prim.Native.Nat.{◌-◌, ◌≤◌}
-use native.Mathlib.Omega.{arith}
 use lib.ListN.{length}
 use Rattle.records.specs.Blocks.{Block}
-use Rattle.records.proofs.Reading.{no_block, next_block, a_block}
 use Rattle.records.proofs.stored.blocks_hold.Given as goal
 
 abbrev pub invariant-loop-from : goal.invariant-loop-from

@@ -1,16 +1,10 @@
 -- `records::stored::same_sums` meets its contract: all sums passed are the same. Assumes nothing.
-use mathlib.Core.Path.{◌≡◌, refl, sym, ap}
+use mathlib.Core.Path.{◌≡◌}
 use mathlib.Core.Bool.{true}
 use Prim.Native.Nat.{◌≤◌, ◌-◌}
-use native.Mathlib.Omega.{arith}
 use lib.ListN.{length}
-use mir.Syntax.{w64}
-use mir.Val.{of_z}
 use Rattle.sums.specs.Lists.{at, every}
-use Rattle.sums.proofs.Bound.{same_bits}
 use Rattle.sums.specs.Equal.{eq_z}
-use Rattle.sums.proofs.Equal.{eq_z_other, eq_z-same}
-use Rattle.sums.proofs.Everywhere.{every_fails, every_more}
 use Rattle.records.proofs.stored.same_sums.Given as goal
 
 abbrev pub invariant-loop-j : goal.invariant-loop-j

@@ -1,11 +1,10 @@
 -- `records::stored::take_row` meets its contract. Assumes nothing.
-use borrow.Author.Rules.{rules}
-use borrow.Author.Tests.{eq-eqb, ne_eqb}
+use borrow.Author.Tests.{ne_eqb}
 use mathlib.Core.Path.{◌≡◌, sym, ap, ap₂, ◌∙◌}
 use mathlib.Core.Bool.{Bool, ◌&&◌}
 use mathlib.Core.List.{List}
 use Prim.Native.Nat.{ℕ}
-use lib.IntN.{ℤ, +ℤ_idr}
+use lib.IntN.{ℤ}
 use lib.ListN.{length}
 use lib.Signed.{le_z}
 use mir.Syntax.{w32}

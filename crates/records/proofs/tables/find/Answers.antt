@@ -1,12 +1,7 @@
 -- `records::tables::find` meets its contract: what is sought lies ahead. Assumes nothing.
-use mathlib.Core.Bool.{Bool}
-use mathlib.Core.List.{List}
-use Prim.Native.Nat.{ℕ, ◌-◌, ◌≤◌}
 use native.Mathlib.Omega.{arith}
 use borrow.Author.Tests.{eq-eqb, ne_eqb}
-use lib.Dec.{eqb}
-use lib.ListN.{get_or}
-use Rattle.sums.proofs.Seek.{Ahead, ahead_none, ahead_more, ahead_here, ahead_end}
+use Rattle.sums.proofs.Seek.{ahead_more, ahead_here, ahead_end}
 use Rattle.records.proofs.tables.find.Invariants.{test}
 use Rattle.records.proofs.tables.find.Goals as goal
 

@@ -2,11 +2,9 @@
 use mathlib.Core.Bool.{Bool}
 use mathlib.Core.List.{List}
 use Prim.Native.Nat.{ℕ, ◌-◌, ◌≤◌}
-use native.Mathlib.Omega.{arith}
-use borrow.Author.Tests.{eq-eqb, ne_eqb}
 use lib.Dec.{eqb}
 use lib.ListN.{get_or}
-use Rattle.sums.proofs.Seek.{Ahead, ahead_none, ahead_more, ahead_here, ahead_end}
+use Rattle.sums.proofs.Seek.{Ahead}
 use Rattle.records.proofs.tables.find.Given as goal
 
 abbrev pub test : List ℕ → ℕ → ℕ → Bool

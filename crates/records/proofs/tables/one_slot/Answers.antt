@@ -1,13 +1,7 @@
 -- `records::tables::one_slot` meets its contract: every day passed does not stand or has one slot. Assumes nothing.
-use mathlib.Core.Path.{◌≡◌, refl, sym, ◌∙◌}
-use mathlib.Core.Bool.{Bool, true, not, ◌||◌}
-use mathlib.Core.List.{List}
-use Prim.Native.Nat.{ℕ, ◌+◌, ◌-◌, ◌≤◌}
+use mathlib.Core.Path.{refl, sym, ◌∙◌}
 use native.Mathlib.Omega.{arith}
-use borrow.Author.Tests.{not-true, not-false}
-use lib.Dec.{eqb}
-use lib.ListN.{get_or}
-use Rattle.sums.specs.Lists.{every, many}
+use Rattle.sums.specs.Lists.{every}
 use Rattle.sums.proofs.Everywhere.{every_more, every_fails}
 use Rattle.records.proofs.tables.one_slot.Invariants.{test}
 use Rattle.records.proofs.tables.one_slot.Goals as goal

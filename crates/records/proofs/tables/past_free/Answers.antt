@@ -1,12 +1,6 @@
 -- `records::tables::past_free` meets its contract: every slot passed was given out or is free. Assumes nothing.
-use mathlib.Core.Path.{◌≡◌, refl, sym, ◌∙◌}
-use mathlib.Core.Bool.{Bool, true, ◌||◌}
-use mathlib.Core.List.{List}
-use Prim.Native.Nat.{ℕ, ◌-◌, ◌≤◌}
+use mathlib.Core.Path.{refl, sym, ◌∙◌}
 use native.Mathlib.Omega.{arith}
-use borrow.Author.Tests.{not-true, not-false}
-use lib.Dec.{eqb, ltb}
-use lib.ListN.{get_or}
 use Rattle.sums.specs.Lists.{every}
 use Rattle.sums.proofs.Everywhere.{every_more, every_fails}
 use Rattle.records.proofs.tables.past_free.Invariants.{test}

@@ -1,14 +1,11 @@
 -- `records::tables::periods_hold` meets its contract: every slot passed has the periods that it may have. Assumes nothing.
-use mathlib.Core.Path.{◌≡◌, refl, sym, ◌∙◌}
+use mathlib.Core.Path.{◌≡◌}
 use mathlib.Core.Bool.{Bool, true, cond, ◌&&◌}
 use mathlib.Core.List.{List}
 use Prim.Native.Nat.{ℕ, ◌-◌, ◌≤◌}
-use native.Mathlib.Omega.{arith}
-use borrow.Author.Tests.{not-true, not-false}
 use lib.Dec.{eqb, leb}
 use lib.ListN.{get_or}
 use Rattle.sums.specs.Lists.{every}
-use Rattle.sums.proofs.Everywhere.{every_more, every_fails}
 use Rattle.records.proofs.tables.periods_hold.Given as goal
 
 abbrev pub test : List ℕ → List ℕ → ℕ → Bool

@@ -1,11 +1,7 @@
 -- `records::tables::slots_of` meets its contract: the count is that of the slots passed. Assumes nothing.
-use mathlib.Core.Path.{◌≡◌, refl}
-use mathlib.Core.Bool.{Bool}
-use mathlib.Core.List.{List}
-use Prim.Native.Nat.{ℕ, ◌+◌, ◌-◌, ◌≤◌}
+use mathlib.Core.Path.{refl}
+use Prim.Native.Nat.{◌+◌}
 use native.Mathlib.Omega.{arith}
-use lib.Dec.{eqb}
-use lib.ListN.{get_or}
 use Rattle.sums.specs.Sum.{total}
 use Rattle.sums.specs.Lists.{many}
 use Rattle.sums.proofs.Everywhere.{many_more, many_most}

@@ -1,11 +1,7 @@
 -- `records::tables::states_hold` meets its contract: every state passed is one of the five. Assumes nothing.
-use mathlib.Core.Path.{◌≡◌, refl, sym}
-use mathlib.Core.Bool.{Bool, true}
-use mathlib.Core.List.{List}
-use Prim.Native.Nat.{ℕ, ◌-◌, ◌≤◌}
+use mathlib.Core.Path.{refl, sym}
 use native.Mathlib.Omega.{arith}
 use borrow.Author.Tests.{le-leb, lt-leb}
-use lib.Dec.{leb}
 use lib.ListN.{get_or}
 use Rattle.sums.specs.Lists.{every}
 use Rattle.sums.proofs.Everywhere.{every_more, every_fails}

@@ -1,14 +1,11 @@
 -- `records::tables::states_hold` meets its contract: every state passed is one of the five. Assumes nothing.
-use mathlib.Core.Path.{◌≡◌, refl, sym}
+use mathlib.Core.Path.{◌≡◌}
 use mathlib.Core.Bool.{Bool, true}
 use mathlib.Core.List.{List}
 use Prim.Native.Nat.{ℕ, ◌-◌, ◌≤◌}
-use native.Mathlib.Omega.{arith}
-use borrow.Author.Tests.{le-leb, lt-leb}
 use lib.Dec.{leb}
 use lib.ListN.{get_or}
 use Rattle.sums.specs.Lists.{every}
-use Rattle.sums.proofs.Everywhere.{every_more, every_fails}
 use Rattle.records.proofs.tables.states_hold.Given as goal
 
 abbrev pub test : List ℕ → ℕ → Bool

@@ -1,12 +1,8 @@
 -- `records::together::holds` meets its contract: a test that fails refutes holding together, and all of them make it. Assumes nothing.
 use mathlib.Core.Path.{◌≡◌, sym, ◌∙◌}
 use mathlib.Core.Bool.{true, true≢false}
-use borrow.Author.Rules.{rules}
-use borrow.Author.Tests.{not-true, not-false, eq-eqb}
-use Prim.Native.Nat.{◌≤◌}
-use native.Mathlib.Nat.{mul-le-mul}
+use borrow.Author.Tests.{eq-eqb}
 use native.Mathlib.Omega.{arith}
-use Rattle.register.proofs.Word.{small}
 use Rattle.register.proofs.Judged.{accepted_exactly}
 use Rattle.records.specs.Record.{edition_holds}
 use Rattle.records.proofs.Holding.{Filed, filed_by, filed_tests_lem, holds-together}

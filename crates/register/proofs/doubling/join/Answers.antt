@@ -1,15 +1,13 @@
 -- `register::doubling::join` meets its contract: after i turns the first i bits have been added. Assumes nothing.
 use mathlib.Core.Path.{◌≡◌, refl, sym, ap, ap₂, ◌∙◌}
-use Prim.Native.Nat.{◌+◌, ◌-◌, ◌*◌, ◌/◌, ◌%◌, ◌^◌, ◌≤◌, ◌<◌}
-use native.Mathlib.Nat.{mod-lt, div-one, div-div-eq-div-mul, zero-lt-suc, pow-suc}
+use Prim.Native.Nat.{◌+◌, ◌*◌, ◌/◌, ◌%◌, ◌^◌, ◌<◌}
+use native.Mathlib.Nat.{div-one, div-div-eq-div-mul, pow-suc}
 use native.Mathlib.Numerals.{add-one}
 use native.Mathlib.Omega.{arith}
 use lib.Bits.{bit_xor}
 use Rattle.register.specs.Register.{tag-step}
 use Rattle.register.specs.Doubling.{moved, joined}
 use Rattle.register.proofs.Divisors.{moved-lt}
-use Rattle.register.proofs.Windows.{bit-mul}
-use Rattle.register.proofs.Word.{small}
 use Rattle.register.proofs.doubling.join.Goals as goal
 use Rattle.register.proofs.doubling.join.Goals.{In-loop-i}
 

@@ -1,7 +1,6 @@
 -- `register::doubling::step_by` meets its contract: each return rewrites with the test that led there. Assumes nothing.
 use mathlib.Core.Path.{◌≡◌, sym, ap, ◌∙◌}
 use native.Mathlib.Omega.{arith}
-use borrow.Author.Rules.{rules}
 use Rattle.register.specs.Doubling.{moved}
 use Rattle.register.proofs.doubling.step_by.Goals as goal
 

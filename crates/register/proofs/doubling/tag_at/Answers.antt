@@ -1,7 +1,7 @@
 -- `register::doubling::tag_at` meets its contract: the tag is that of the bits passed. Assumes nothing.
 use mathlib.Core.Path.{◌≡◌, sym, ap, ◌∙◌}
-use Prim.Native.Nat.{ℕ, ◌+◌, ◌-◌, ◌*◌, ◌/◌, ◌%◌, ◌^◌, ◌≤◌, ◌<◌}
-use native.Mathlib.Nat.{div-one, div-eq_of_lt, div-div-eq-div-mul, pow-suc}
+use Prim.Native.Nat.{ℕ, ◌+◌, ◌-◌, ◌*◌, ◌/◌, ◌%◌, ◌^◌, ◌<◌}
+use native.Mathlib.Nat.{div-eq_of_lt, div-div-eq-div-mul, pow-suc}
 use native.Mathlib.Omega.{arith}
 use Rattle.register.specs.Register.{tag as tag_of}
 use Rattle.register.proofs.Divisors.{doubled, joined-lt}

@@ -1,5 +1,4 @@
 -- `register::sequence::check_and_write` meets its contract: the taps check decides 1 to 4, and what it leaves is the room. Assumes nothing.
-use borrow.Author.Rules.{rules}
 use borrow.Author.Tests.{lt-ltb, le-ltb}
 use mathlib.Core.Path.{◌≡◌, sym, ap, ◌∙◌}
 use mathlib.Core.List.{List, [], ◌∷◌}

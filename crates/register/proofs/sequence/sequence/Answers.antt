@@ -1,10 +1,9 @@
 -- `register::sequence::sequence` meets its contract: what the checks and the bits come to, told with the period. Assumes nothing.
-use borrow.Author.Rules.{rules}
 use mathlib.Core.Path.{◌≡◌, refl}
 use mathlib.Core.List.{List}
 use Prim.Native.Nat.{ℕ}
 use Rattle.register.specs.Calls.{Reached, sequence_checks, sequence_outcome}
-use Rattle.register.proofs.HowShort.{reached_by, passed_on}
+use Rattle.register.proofs.HowShort.{reached_by}
 use Rattle.register.proofs.sequence.sequence.Goals as goal
 
 seen : (N taps : ℕ) (before : List ℕ) {n : ℕ} {after : List ℕ} → (n, after) ≡ sequence_outcome N taps before → Reached N taps n

@@ -1,9 +1,9 @@
 -- `register::sequence::write_bits` meets its contract: after k turns the first k bits are written, and the window is that of place k.
 -- Assumes nothing.
-use mathlib.Core.Path.{◌≡◌, ap}
-use Prim.Native.Nat.{ℕ, ◌-◌, ◌%◌, ◌≤◌}
+use mathlib.Core.Path.{ap}
+use Prim.Native.Nat.{ℕ, ◌%◌}
 use native.Mathlib.Omega.{arith}
-use Rattle.sums.proofs.Tables.{Written, written_none, written_more, written_length}
+use Rattle.sums.proofs.Tables.{written_none, written_more}
 use Rattle.register.specs.Register.{window as window_of, bit}
 use Rattle.register.proofs.Windows.{window-lt, window-next}
 use Rattle.register.proofs.sequence.write_bits.Goals as goal

@@ -1,6 +1,5 @@
 -- `register::shift::step` meets its contract: the parity is `dot`, and the new bit above a window of at most 16 bits fits.
 -- Assumes nothing.
-use borrow.Author.Rules.{rules}
 use mathlib.Core.Path.{ap}
 use Prim.Native.Nat.{ℕ, ◌+◌, ◌*◌, ◌/◌, ◌^◌, ◌≤◌}
 use native.Mathlib.Nat.{mod-eq_of_lt}

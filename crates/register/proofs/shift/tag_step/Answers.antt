@@ -1,12 +1,8 @@
 -- `register::shift::tag_step` meets its contract. Assumes nothing.
-use borrow.Author.Rules.{rules}
 use mathlib.Core.Path.{ap, ◌∙◌}
 use Prim.Native.Nat.{ℕ, ◌*◌, ◌/◌, ◌^◌}
-use native.Mathlib.Omega.{arith}
 use lib.Bits.{bit_and, bit_xor, and_mask}
 use Rattle.register.specs.Register.{tag-step}
-use Rattle.register.proofs.Windows.{bit-mul, out_lt}
-use Rattle.register.proofs.Word.{small}
 use Rattle.register.proofs.shift.tag_step.Goals as goal
 
 pub returns : goal.returns

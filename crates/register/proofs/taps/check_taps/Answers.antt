@@ -1,7 +1,6 @@
 -- `register::taps::check_taps` meets its contract: the number is told with the period. Assumes nothing.
-use borrow.Author.Rules.{rules}
-use mathlib.Core.Path.{refl, ap, ◌∙◌}
-use Rattle.register.specs.Calls.{answer_of, taps_checks, taps_answer}
+use mathlib.Core.Path.{refl}
+use Rattle.register.specs.Calls.{taps_checks, taps_answer}
 use Rattle.register.proofs.HowShort.{reached}
 use Rattle.register.proofs.taps.check_taps.Goals as goal
 

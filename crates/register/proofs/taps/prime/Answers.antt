@@ -1,10 +1,9 @@
 -- `register::taps::prime` meets its contract: no number passed divides q. Assumes nothing.
-use mathlib.Core.Path.{◌≡◌, sym, ap, ◌∙◌}
-use Prim.Native.Nat.{ℕ, ◌-◌, ◌*◌, ◌%◌, ◌≤◌, ◌<◌}
+use mathlib.Core.Path.{sym}
+use Prim.Native.Nat.{◌*◌, ◌≤◌, ◌<◌}
 use native.Mathlib.Nat.{mul-le-mul}
-use native.Mathlib.Decide.{ℕ_discrete}
 use native.Mathlib.Omega.{arith}
-use Rattle.register.proofs.Factors.{root_below, prime-one, not_prime, by_root}
+use Rattle.register.proofs.Factors.{root_below, not_prime, by_root}
 use Rattle.register.proofs.taps.prime.Goals as goal
 use Rattle.register.proofs.taps.prime.Goals.{Else-q-e-eq0}
 

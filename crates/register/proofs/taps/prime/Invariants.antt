@@ -1,10 +1,6 @@
 -- `register::taps::prime` meets its contract: no number passed divides q. Assumes nothing.
-use mathlib.Core.Path.{◌≡◌, sym, ap, ◌∙◌}
-use Prim.Native.Nat.{ℕ, ◌-◌, ◌*◌, ◌%◌, ◌≤◌, ◌<◌}
-use native.Mathlib.Nat.{mul-le-mul}
-use native.Mathlib.Decide.{ℕ_discrete}
-use native.Mathlib.Omega.{arith}
-use Rattle.register.proofs.Factors.{root_below, prime-one, not_prime, by_root}
+use mathlib.Core.Path.{◌≡◌}
+use Prim.Native.Nat.{ℕ, ◌-◌, ◌%◌, ◌≤◌, ◌<◌}
 use Rattle.register.proofs.taps.prime.Given as goal
 
 abbrev pub invariant-loop-e : goal.invariant-loop-e

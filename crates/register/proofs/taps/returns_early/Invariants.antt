@@ -1,13 +1,9 @@
 -- `register::taps::returns_early` meets its contract: no divisor passed has a return. Assumes nothing.
-use mathlib.Core.Path.{◌≡◌, refl, sym, ap, ◌∙◌}
+use mathlib.Core.Path.{◌≡◌}
 use mathlib.Core.Bool.{Bool, false}
-use Prim.Native.Nat.{ℕ, suc, ◌+◌, ◌-◌, ◌/◌, ◌≤◌}
-use native.Mathlib.Omega.{arith}
-use lib.Pow.{pow_pos}
+use Prim.Native.Nat.{ℕ, ◌+◌, ◌-◌, ◌≤◌}
 use Rattle.sums.specs.Lists.{some}
-use Rattle.sums.proofs.Somewhere.{some_at, some_past}
-use Rattle.register.specs.Doubling.{root_bound, returns_at}
-use Rattle.register.proofs.Divisors.{root_bound_le}
+use Rattle.register.specs.Doubling.{returns_at}
 use Rattle.register.proofs.taps.returns_early.Given as goal
 
 abbrev pub test : ℕ → ℕ → ℕ → Bool

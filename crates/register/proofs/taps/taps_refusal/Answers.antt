@@ -1,12 +1,10 @@
 -- `register::taps::taps_refusal` meets its contract: the checks 1, 2 and 3 are another function's, and the tags decide the fourth. Assumes nothing.
-use borrow.Author.Rules.{rules}
 use borrow.Author.Tests.{eq-eqb, ne_eqb}
 use mathlib.Core.Path.{◌≡◌, sym, ap, ◌∙◌}
 use mathlib.Core.Logic.{◌↔◌}
 use mathlib.Core.Bool.{false, true≢false}
 use mathlib.Core.List.{[], ◌∷◌}
 use Prim.Native.Nat.{ℕ}
-use native.Mathlib.Omega.{arith}
 use Rattle.sums.specs.Refusals.{first}
 use Rattle.sums.proofs.First.{refused_first, passed_first}
 use Rattle.register.specs.Register.{P, period, tag, Shaped}
@@ -15,7 +13,6 @@ use Rattle.register.specs.Doubling.{returns_early}
 use Rattle.register.proofs.Divisors.{by_divisors}
 use Rattle.register.proofs.Judged.{shaped, maximal_period}
 use Rattle.register.proofs.TagReturn.{maximal_by_tags}
-use Rattle.register.proofs.Word.{small}
 use Rattle.register.proofs.taps.taps_refusal.Goals as goal
 use Rattle.register.proofs.taps.taps_refusal.Goals.{After-tag_at, Else-refusal-ne0}
 

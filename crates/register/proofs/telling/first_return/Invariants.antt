@@ -1,12 +1,7 @@
 -- `register::telling::first_return` meets its contract: of the windows gone by none is all ones. Assumes nothing.
-use mathlib.Core.Path.{◌≡◌, sym, ap, ◌∙◌}
+use mathlib.Core.Path.{◌≡◌}
 use Prim.Native.Nat.{ℕ, ◌-◌, ◌≤◌, ◌<◌}
-use native.Mathlib.Decide.{ℕ_discrete, dec_lt}
-use native.Mathlib.Omega.{arith}
-use lib.Pow.{pow-lt}
-use Rattle.register.specs.Register.{P, period, window as window_of, Tapped}
-use Rattle.register.proofs.Judged.{first_return}
-use Rattle.register.proofs.Windows.{window-lt, window-next}
+use Rattle.register.specs.Register.{P, window as window_of}
 use Rattle.register.proofs.telling.first_return.Given as goal
 
 abbrev pub invariant-loop-k : goal.invariant-loop-k

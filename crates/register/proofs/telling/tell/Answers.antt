@@ -1,9 +1,9 @@
 -- `register::telling::tell` meets its contract: an accepted register's period is P. Assumes nothing.
 use mathlib.Core.Path.{sym, ap, ◌∙◌}
-use mathlib.Core.Logic.{inl, inr}
+use mathlib.Core.Logic.{inl}
 use Prim.Native.Nat.{ℕ}
 use Rattle.register.specs.declared.Answer.{Answer}
-use Rattle.register.proofs.HowShort.{told-period, told_none}
+use Rattle.register.proofs.HowShort.{told-period}
 use Rattle.register.proofs.Judged.{maximal_period}
 use Rattle.register.proofs.telling.tell.Goals as goal
 

@@ -1,10 +1,7 @@
 -- `report::printing::fill_digits` meets its contract: what is left of the number, and its last digits in the room. Assumes nothing.
-use mathlib.Core.Path.{◌≡◌, sym, ◌∙◌}
-use Prim.Native.Nat.{◌≤◌}
 use native.Mathlib.Omega.{arith}
-use lib.ListN.{length}
 use lib.ListN.{length-set}
-use Rattle.report.proofs.Writing.{Digits, digits-none, digits_left, digits_more, digits_last}
+use Rattle.report.proofs.Writing.{digits_more, digits_last}
 use Rattle.report.proofs.printing.fill_digits.Goals as goal
 
 pub loop-rest-preserved : goal.loop-rest-preserved

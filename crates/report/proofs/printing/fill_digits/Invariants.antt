@@ -1,10 +1,8 @@
 -- `report::printing::fill_digits` meets its contract: what is left of the number, and its last digits in the room. Assumes nothing.
-use mathlib.Core.Path.{◌≡◌, sym, ◌∙◌}
+use mathlib.Core.Path.{◌≡◌}
 use Prim.Native.Nat.{◌≤◌}
-use native.Mathlib.Omega.{arith}
 use lib.ListN.{length}
-use lib.ListN.{length-set}
-use Rattle.report.proofs.Writing.{Digits, digits-none, digits_left, digits_more, digits_last}
+use Rattle.report.proofs.Writing.{Digits}
 use Rattle.report.proofs.printing.fill_digits.Given as goal
 
 abbrev pub invariant-loop-rest : goal.invariant-loop-rest

@@ -1,19 +1,15 @@
 -- `rounding::means::mean_as` meets its contract: a sample's size is 2^23 at most, and its sign is that of the number divided. Assumes nothing.
-use borrow.Author.Rules.{rules}
-use mathlib.Core.Path.{◌≡◌, sym, ap, ◌∙◌}
+use mathlib.Core.Path.{◌≡◌, ap, ◌∙◌}
 use Prim.Native.Nat.{◌^◌, ◌≤◌}
 use native.Mathlib.Omega.{arith}
 use lib.IntN.{nat_abs}
 use mir.Syntax.{w64}
 use mir.Val.{to_z, of_z}
 use mir.ValLaws.{to_z-of_z}
-use Rattle.sums.proofs.Bound.{read}
 use Rattle.rounding.specs.Rounding.{nearest_in, rounded}
-use Rattle.rounding.specs.Halving.{with_sign}
-use Rattle.samples.specs.Samples.{sample_out}
 use Rattle.samples.proofs.Sizes.{sample_size}
 use Rattle.rounding.proofs.Halves.{close}
-use Rattle.rounding.proofs.Signs.{rounded-signed, rounded_size}
+use Rattle.rounding.proofs.Signs.{rounded_size}
 use Rattle.rounding.proofs.means.mean_as.Goals as goal
 use Rattle.rounding.proofs.means.mean_as.Goals.{After-size, Start}
 

@@ -1,9 +1,6 @@
 -- `rounding::means::near` meets its contract, by the laws of `Halves`. Assumes nothing.
 use mathlib.Core.Path.{◌∙◌}
-use native.Mathlib.Nat.{le_of_lt, mod-lt}
 use native.Mathlib.Omega.{arith}
-use borrow.Author.Rules.{rules}
-use Rattle.rounding.proofs.Nearest.{near_room}
 use Rattle.rounding.proofs.Halves.{settled_down, settled_up}
 use Rattle.rounding.proofs.means.near.Goals as goal
 

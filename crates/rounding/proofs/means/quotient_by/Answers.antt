@@ -1,12 +1,11 @@
 -- `rounding::means::quotient_by` meets its contract, by the laws of `Reciprocal`. Assumes nothing.
 use mathlib.Core.Path.{◌≡◌, ap, ◌∙◌}
-use Prim.Native.Nat.{◌*◌, ◌/◌, ◌^◌, ◌≤◌}
-use native.Mathlib.Nat.{div-mul-le_self, mul-le-mul_left}
+use Prim.Native.Nat.{◌*◌, ◌/◌, ◌^◌}
+use native.Mathlib.Nat.{div-mul-le_self}
 use native.Mathlib.Omega.{arith}
-use borrow.Author.Rules.{rules}
 use lib.Dec.{eqb}
 use Rattle.rounding.specs.Rounding.{settled}
-use Rattle.rounding.proofs.Reciprocal.{split_small, product_fits, by_product}
+use Rattle.rounding.proofs.Reciprocal.{product_fits, by_product}
 use Rattle.rounding.proofs.means.quotient_by.Goals as goal
 use Rattle.rounding.proofs.means.quotient_by.Goals.{Start}
 

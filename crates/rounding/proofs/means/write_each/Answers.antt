@@ -1,13 +1,12 @@
 -- `rounding::means::write_each` meets its contract: after k turns the first k means are written. Assumes nothing.
 use mathlib.Core.Path.{◌≡◌, ◌∙◌}
-use Prim.Native.Nat.{◌-◌, ◌≤◌}
 use native.Mathlib.Omega.{arith}
 use mir.Syntax.{w32, w64}
 use mir.Val.{SFits}
 use mir.Facts.{to_z-of_z}
 use Rattle.sums.specs.Lists.{at}
 use Rattle.sums.proofs.Bound.{read}
-use Rattle.sums.proofs.Tables.{Written, written_none, written_more, written_length}
+use Rattle.sums.proofs.Tables.{written_none, written_more}
 use Rattle.rounding.specs.Rounding.{rounded}
 use Rattle.samples.proofs.Sizes.{sample_fits}
 use Rattle.rounding.proofs.means.write_each.Goals as goal

@@ -1,11 +1,10 @@
 -- `rounding::means::write_means` meets its contract: a divisor that is few times a power of two has its reciprocal. Assumes nothing.
-use borrow.Author.Rules.{rules}
 use mathlib.Core.Path.{sym, ◌∙◌}
 use native.Mathlib.Omega.{arith}
 use borrow.Author.Tests.{eqb-true, leb-true}
 use lib.Dec.{eqb, leb}
 use Rattle.sums.proofs.Everywhere.{and-true}
-use Rattle.rounding.proofs.Reciprocal.{rest_some, split, split_few}
+use Rattle.rounding.proofs.Reciprocal.{split, split_few}
 use Rattle.rounding.proofs.means.write_means.Goals as goal
 
 pub write_each-requires-clause-period_in_bounds : goal.write_each-requires-clause-period_in_bounds

@@ -1,9 +1,7 @@
 -- `samples::clearing::clear_wide` meets its contract: after i turns the first i numbers are 0. Assumes nothing.
-use mathlib.Core.Path.{◌≡◌, refl}
 use Prim.Native.Nat.{◌≤◌, ◌-◌}
-use native.Mathlib.Omega.{arith}
 use lib.IntN.{pos}
-use Rattle.sums.proofs.Tables.{Written, written_none, written_more, written_length}
+use Rattle.sums.proofs.Tables.{Written}
 use Rattle.samples.proofs.clearing.clear_wide.Given as goal
 
 abbrev pub invariant-loop-i : goal.invariant-loop-i

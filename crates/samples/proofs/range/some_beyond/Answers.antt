@@ -1,16 +1,11 @@
 -- `samples::range::some_beyond` meets its contract: of the values passed it is known whether one lies beyond a bound. Assumes nothing.
 use mathlib.Core.Path.{◌≡◌, refl, ap, ap₂, ◌∙◌}
-use mathlib.Core.Bool.{Bool, ◌||◌}
-use mathlib.Core.List.{List}
-use Prim.Native.Nat.{ℕ, ◌≤◌, ◌-◌}
+use mathlib.Core.Bool.{◌||◌}
 use native.Mathlib.Numerals.{add-one}
 use native.Mathlib.Omega.{arith}
-use lib.IntN.{ℤ}
-use lib.ListN.{length}
 use lib.Signed.{lt_z}
 use mir.Syntax.{w32}
 use mir.Val.{to_z, of_z}
-use mir.Facts.{to_z-of_z}
 use Rattle.sums.specs.Lists.{at, some}
 use Rattle.sums.proofs.Bound.{read}
 use Rattle.samples.proofs.range.some_beyond.Invariants.{outside}

@@ -1,14 +1,9 @@
 -- `samples::rows::add_in` meets its contract: the samples passed are added. Assumes nothing.
-use mathlib.Core.Path.{◌≡◌, ap, ap₂, ◌∙◌}
 use Prim.Native.Nat.{◌-◌, ◌≤◌}
-use native.Mathlib.Omega.{arith}
-use lib.IntN.{pos, nat_abs, ◌+ℤ◌}
+use lib.IntN.{◌+ℤ◌}
 use lib.ListN.{length}
-use mir.Syntax.{w32}
-use mir.Facts.{to_z-of_z}
 use Rattle.sums.specs.Lists.{at}
-use Rattle.sums.proofs.Bound.{small_fits, read, nat_abs-+}
-use Rattle.sums.proofs.Tables.{Written, written_none, written_more, written_length, written_ahead}
+use Rattle.sums.proofs.Tables.{Written}
 use Rattle.samples.proofs.rows.add_in.Given as goal
 
 abbrev pub invariant-loop-j : goal.invariant-loop-j

@@ -1,6 +1,5 @@
 -- `samples::print::marks` meets its contract: the place goes up to the end. Assumes nothing.
 use Prim.Native.Nat.{◌-◌, ◌≤◌}
-use native.Mathlib.Omega.{arith}
 use lib.ListN.{length}
 use Rattle.signs.proofs.print.marks.Given as goal
 

@@ -1,7 +1,5 @@
 -- `samples::runs::blocks_run` meets its contract: a block has 1 to 64 signs, so what is left gets less. Assumes nothing.
-use mathlib.Core.Path.{refl}
 use Prim.Native.Nat.{◌≤◌, ◌<◌}
-use native.Mathlib.Omega.{arith}
 use Rattle.signs.proofs.runs.blocks_run.Given as goal
 
 abbrev pub invariant-loop-left : goal.invariant-loop-left

@@ -1,6 +1,4 @@
 -- `samples::runs::clocks_run` meets its contract: what is left gets less. Assumes nothing.
-use mathlib.Core.Path.{refl}
-use native.Mathlib.Omega.{arith}
 use Rattle.signs.proofs.runs.clocks_run.Given as goal
 
 abbrev pub invariant-loop-left : goal.invariant-loop-left

@@ -1,16 +1,11 @@
 -- `trend::answering::response_refusal` meets its contract: each return rewrites with the tests that led there. Assumes nothing.
 use mathlib.Core.Path.{◌≡◌, sym, ◌∙◌}
-use mathlib.Core.Bool.{true, false}
+use mathlib.Core.Bool.{true}
 use Prim.Native.Nat.{◌≤◌}
 use native.Mathlib.Omega.{arith}
-use borrow.Author.Rules.{rules}
-use borrow.Author.Tests.{not-true, not-false, eq-eqb, ne_eqb}
-use Rattle.register.specs.Register.{P}
 use Rattle.register.proofs.Word.{small}
-use Rattle.records.specs.Record.{standing, days_in, together}
+use Rattle.records.specs.Record.{together}
 use Rattle.records.proofs.Holding.{holds-together}
-use Rattle.records.proofs.Loops.{days_in_is}
-use Rattle.trend.specs.Calls.{answer_short}
 use Rattle.trend.proofs.answering.response_refusal.Goals as goal
 use Rattle.trend.proofs.answering.response_refusal.Goals.{Else-not-holds}
 

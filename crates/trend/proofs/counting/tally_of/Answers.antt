@@ -1,7 +1,6 @@
 -- `trend::counting::tally_of` meets its contract: five counts. Assumes nothing.
 use mathlib.Core.Path.{◌∙◌}
 use Rattle.records.proofs.Loops.{days_in_is}
-use borrow.Author.Rules.{rules}
 use Rattle.trend.proofs.counting.tally_of.Goals as goal
 
 pub returns : goal.returns

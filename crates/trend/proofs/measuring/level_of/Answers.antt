@@ -1,9 +1,6 @@
 -- `trend::measuring::level_of` meets its contract: both casts are exact, and the machine's one division is the contract's. Assumes nothing.
-use native.Mathlib.Nat.{le_of_lt}
-use lib.IntN.{pos}
 use mir.Facts.{to_z-of_z}
 use Rattle.trend.specs.Calls.{level}
-use Rattle.trend.proofs.Leveling.{in_float_lem}
 use Rattle.trend.proofs.measuring.level_of.Goals as goal
 
 pub returns : goal.returns

@@ -1,5 +1,4 @@
 -- `trend::measuring::measure` meets its contract: what is read of the transformed room is the response. Assumes nothing.
-use borrow.Author.Rules.{rules}
 use mathlib.Core.Path.{ap, fun_ext, ◌∙◌}
 use Prim.Native.Nat.{◌+◌, ◌^◌, ◌<◌}
 use native.Mathlib.Omega.{arith}
@@ -14,7 +13,7 @@ use Rattle.response.specs.Route.{spectrum}
 use Rattle.response.proofs.Clearing.{cleared_again}
 use Rattle.response.proofs.FastRoute.{windows_walk, loud, route}
 use Rattle.samples.proofs.Sizes.{quiet_wide}
-use Rattle.response.proofs.Transformed.{after_long, bounded, reads_at}
+use Rattle.response.proofs.Transformed.{bounded, reads_at}
 use Rattle.trend.specs.Calls.{extremes_of}
 use Rattle.trend.proofs.measuring.measure.Goals as goal
 use Rattle.trend.proofs.measuring.measure.Goals.{After-spread_wide}

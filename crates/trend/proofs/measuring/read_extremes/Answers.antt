@@ -4,16 +4,16 @@ use mathlib.Core.Path.{◌≡◌, refl, ap, ◌∙◌}
 use mathlib.Core.List.{List}
 use Prim.Native.Nat.{ℕ, suc, ◌-◌, ◌^◌, ◌<◌, ◌≤◌}
 use native.Mathlib.Omega.{arith}
-use lib.IntN.{ℤ, pos, nat_abs, ◌-ℤ◌}
+use lib.IntN.{ℤ, nat_abs, ◌-ℤ◌}
 use lib.ListN.{length}
 use mir.Syntax.{w64}
 use mir.Val.{of_z, to_z}
 use Rattle.sums.specs.Lists.{at}
-use Rattle.sums.proofs.Bound.{read, nat_abs-sub}
+use Rattle.sums.proofs.Bound.{read}
 use Rattle.register.specs.Register.{P, Accepted, tag as tag_of, tag-step as tag_step_of}
 use Rattle.register.proofs.Windows.{tag-lt, tag-next}
 use Rattle.sums.proofs.Equal.{minus_le}
-use Rattle.sums.proofs.Scanning.{Best, best_one, best_more, best_all}
+use Rattle.sums.proofs.Scanning.{best_one, best_more, best_all}
 use Rattle.trend.proofs.measuring.read_extremes.Invariants.{value, plain, minus, sized}
 use Rattle.trend.proofs.measuring.read_extremes.Goals as goal
 

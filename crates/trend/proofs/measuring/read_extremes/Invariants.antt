@@ -1,19 +1,12 @@
 -- `trend::measuring::read_extremes` meets its contract: each extreme is that of the places from k on, and the tag is that of the delay P - k.
 -- Assumes nothing.
-use mathlib.Core.Path.{◌≡◌, refl, ap, ◌∙◌}
+use mathlib.Core.Path.{◌≡◌}
 use mathlib.Core.List.{List}
-use Prim.Native.Nat.{ℕ, suc, ◌-◌, ◌^◌, ◌<◌}
-use native.Mathlib.Omega.{arith}
+use Prim.Native.Nat.{ℕ, ◌-◌, ◌<◌}
 use lib.IntN.{ℤ, pos, nat_abs, ◌-ℤ◌}
-use lib.ListN.{length}
-use mir.Syntax.{w64}
-use mir.Val.{of_z, to_z}
 use Rattle.sums.specs.Lists.{at}
-use Rattle.sums.proofs.Bound.{read, nat_abs-sub}
 use Rattle.register.specs.Register.{tag as tag_of}
-use Rattle.register.proofs.Windows.{tag-lt, tag-next}
-use Rattle.sums.proofs.Equal.{minus_le}
-use Rattle.sums.proofs.Scanning.{Best, best_one, best_more, best_all}
+use Rattle.sums.proofs.Scanning.{Best}
 use Rattle.trend.proofs.measuring.read_extremes.Given as goal
 
 -- what stands at place k

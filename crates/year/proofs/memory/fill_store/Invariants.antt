@@ -1,7 +1,5 @@
 -- `year::memory::fill_store` meets its contract. Assumes nothing.
 use Prim.Native.Nat.{◌-◌, ◌≤◌}
-use native.Mathlib.Omega.{arith}
-use borrow.Author.Rules.{rules}
 use Rattle.year.specs.Lent.{store_places}
 use Rattle.year.proofs.memory.fill_store.Given as goal
 

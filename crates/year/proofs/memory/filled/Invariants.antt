@@ -1,7 +1,5 @@
 -- `year::memory::filled` meets its contract. Assumes nothing.
 use Prim.Native.Nat.{◌-◌, ◌≤◌}
-use native.Mathlib.Omega.{arith}
-use borrow.Author.Rules.{rules}
 use Rattle.year.specs.Lent.{tag_places}
 use Rattle.year.proofs.memory.filled.Given as goal
 

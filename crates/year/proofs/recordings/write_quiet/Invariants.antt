@@ -1,9 +1,7 @@
 -- `year::recordings::write_quiet` meets its contract: each place is written once. Assumes nothing.
-use mathlib.Core.Path.{◌≡◌, refl, ◌∙◌}
+use mathlib.Core.Path.{◌≡◌}
 use Prim.Native.Nat.{◌≤◌, ◌-◌}
-use native.Mathlib.Omega.{arith}
-use lib.ListN.{length, length-set}
-use borrow.Author.Rules.{rules}
+use lib.ListN.{length}
 use Rattle.year.proofs.recordings.write_quiet.Given as goal
 
 abbrev pub invariant-loop-j : goal.invariant-loop-j

@@ -1,7 +1,5 @@
 -- `year::visits::all_visits` meets its contract. Assumes nothing.
 use Prim.Native.Nat.{◌-◌, ◌≤◌}
-use native.Mathlib.Omega.{arith}
-use borrow.Author.Rules.{rules}
 use Rattle.year.specs.Lent.{visits}
 use Rattle.year.proofs.visits.all_visits.Given as goal
 

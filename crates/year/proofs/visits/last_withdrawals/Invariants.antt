@@ -1,7 +1,5 @@
 -- `year::visits::last_withdrawals` meets its contract. Assumes nothing.
 use Prim.Native.Nat.{◌-◌, ◌≤◌}
-use native.Mathlib.Omega.{arith}
-use borrow.Author.Rules.{rules}
 use Rattle.year.specs.Lent.{visits}
 use Rattle.year.proofs.visits.last_withdrawals.Given as goal
 
