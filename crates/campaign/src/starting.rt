@@ -15,7 +15,7 @@ use register::telling::tell;
 use rounding::editions::is_edition;
 use samples::clearing::{clear_samples, clear_wide};
 
-// Whether the store is short of C.P samples, or the sums of P.
+// Whether the store is short of C·P samples, or the sums of P.
 fn memory_short(capacity: usize, period: usize, store: usize, sums: usize) -> bool
     requires { (capacity ≤ 64) × (period ≤ 65535) }
     ensures { result ≡ ltb store (capacity * period) || ltb sums period }

@@ -192,7 +192,7 @@ halves_means = (refl, refl)
 
 -- ---- captures
 
--- a run_in at the rail
+-- a run-in at the rail
 abbrev run_in : List ℤ
 run_in = replicate 7 (pos 8388607)
 
@@ -202,7 +202,7 @@ night =
     ∷ negsuc 2 ∷ negsuc 12 ∷ negsuc 1 ∷ pos 12 ∷ pos 10 ∷ negsuc 10 ∷ pos 3 ∷ []
 
 pub record Captures : Type 0 where
-  -- the rails of the run_in are no overload, and its samples are not in the sums
+  -- the rails of the run-in are no overload, and its samples are not in the sums
   pub kept : captured (of 2) 1 2 night ≡ Kept 0
   pub response : asked (run (of 2) (enter 1 (Capture 2) night ∷ []))
       ≡ (
@@ -215,16 +215,16 @@ pub record Captures : Type 0 where
   -- one period and a capture in one mean: 186 over 3 periods of 8, and not over 2 days
   pub both : (asked (run (of 2) (enter 2 Period day_1 ∷ enter 1 (Capture 2) night ∷ []))).2
       ≡ pos 8 ∷ pos 0 ∷ negsuc 3 ∷ pos 0 ∷ pos 0 ∷ pos 0 ∷ pos 0 ∷ []
-  -- the place of an overload counts from the first sample after the run_in
+  -- the place of an overload counts from the first sample after the run-in
   pub first_place_lem : captured (of 2) 1 1 (run_in ++ with (pos 8388607)) ≡ Overloaded 0
   pub last_place : captured (of 2) 1 2 (replicate 20 (pos 0) ++ negsuc 8388607 ∷ []) ≡ Overloaded 13
-  -- the spread is that of all periods together, and not of the run_in
+  -- the spread is that of all periods together, and not of the run-in
   pub dead : captured (of 2) 1 2 (run_in ++ with (pos 7) ++ with (pos 6)) ≡ Dead
   pub not_dead : captured (of 2) 1 2 (run_in ++ with (pos 7) ++ with (negsuc 0)) ≡ Kept 0
   pub no_periods : captured (of 2) 1 0 run_in ≡ Refused 18
   pub seventeen : captured (of 2) 1 17 night ≡ Refused 18
   pub one_short : captured (of 2) 1 2 (run_in ++ run_in) ≡ Refused 5
-  -- 7 speaks of the run_in too
+  -- 7 speaks of the run-in too
   pub out_of_range : captured (of 2) 1 1 (with (pos 8388608) ++ with (pos 8)) ≡ Refused 7
   -- withdrawn, its slot has no periods
   pub withdrawal : (run (of 2) (withdraw 1 ∷ enter 1 (Capture 2) night ∷ [])).campaign.periods ≡ replicate 64 0

@@ -1,4 +1,4 @@
-// Words and numbers on the standard output that a program hands in, each number after a space. A write that fails is passed over, as it always was:
+// Words and numbers on the standard output that a program hands in, each number after a space. A write that fails is passed over:
 // a line that is cut shows in the comparison of what was printed.
 use crate::digest::below_zero;
 

@@ -1,5 +1,5 @@
 -- Document 01, "The log program", and document 02, request 1, as one function: from all bytes of the input to all bytes that are printed. What stands at a place of the
--- log is crate `log`'s `decoded`, what an item does is `logbook`'s `applied`, and a line's bytes are `report`'s: here is only how they
+-- log is crate `logitems`'s `decoded`, what an item does is `logeffects`'s `applied`, and a line's bytes are `report`'s: here is only how they
 -- follow each other. Assumes nothing.
 use Rattle.std.specs.Prelude.{List, [], ◌++◌, Bool, true, false, ℕ, zero, suc, ◌+◌, ℤ, pos, length, take, drop, replicate}
 use Rattle.sums.specs.Lists.{at}
