@@ -729,11 +729,15 @@ int main(int words, char **word) {
     if (words != 3)
         return fprintf(stderr, "usage: random SEED COUNT\n"), 2;
     uint64_t seed = strtoull(word[1], NULL, 10), count = strtoull(word[2], NULL, 10);
-    static void (*const cases[11])(void) = {taps_case, sequence_case, player_case, recording_case, predict_case, predict_in_room_case,
-                                            campaign_case, campaign_case, campaign_case, judge_case, legendre_case};
+    static void (*const cases[10])(void) = {taps_case, sequence_case, player_case, recording_case, predict_case, predict_in_room_case,
+                                            campaign_case, campaign_case, campaign_case, judge_case};
     for (number = 0; number < count; number++) {
         stream = mix(seed ^ mix(number + 1));
-        cases[below(11)]();
+        cases[below(10)]();
+    }
+    for (; number < count + count / 10; number++) {
+        stream = mix(seed ^ mix(number + 1));
+        legendre_case();
     }
     return 0;
 }

@@ -15,11 +15,11 @@ use crate::short::short_taps;
 use crate::year_memory::digest_of;
 use std::io::{self, Write};
 
-/// Prints the lines of the cases 0 to `count` - 1.
+/// Prints the lines of the cases 0 to `count` - 1, and behind them a tenth as many of short rooms.
 pub fn print(seed: u64, count: u64, out: &mut impl Write) -> io::Result<()> {
     for case in 0..count {
         let mut rng = Rng::for_log(seed, case);
-        let lines = match rng.below(11) {
+        let lines = match rng.below(10) {
             0 => taps_case(&mut rng),
             1 => sequence_case(&mut rng),
             2 => player_case(&mut rng),
@@ -27,10 +27,15 @@ pub fn print(seed: u64, count: u64, out: &mut impl Write) -> io::Result<()> {
             4 => predict_case(&mut rng),
             5 => predict_in_room_case(&mut rng),
             6..=8 => campaign_case(&mut rng),
-            9 => judge_case(&mut rng),
-            _ => legendre_case(&mut rng),
+            _ => judge_case(&mut rng),
         };
         for line in lines {
+            writeln!(out, "{case} {line}")?;
+        }
+    }
+    for case in count..count + count / 10 {
+        let mut rng = Rng::for_log(seed, case);
+        for line in legendre_case(&mut rng) {
             writeln!(out, "{case} {line}")?;
         }
     }

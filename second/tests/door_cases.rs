@@ -286,7 +286,7 @@ fn damage_moves_a_used_slot_to_its_bounds_and_one_beyond() {
 }
 
 #[test]
-fn two_thousand_cases_meet_every_answer_of_every_campaign_and_legendre_call() {
+fn two_thousand_cases_meet_every_answer_of_every_campaign_call() {
     let mut printed = Vec::new();
     second::door::print(1, 2000, &mut printed).unwrap();
     let printed = String::from_utf8(printed).unwrap();
@@ -294,9 +294,7 @@ fn two_thousand_cases_meet_every_answer_of_every_campaign_and_legendre_call() {
     for line in printed.lines() {
         let words: Vec<&str> = line.split(' ').collect();
         match words[1] {
-            "enter" | "capture" | "legendre" => {
-                met.insert(format!("{} {} {}", words[1], words[2], words[3]))
-            }
+            "enter" | "capture" => met.insert(format!("{} {} {}", words[1], words[2], words[3])),
             call => met.insert(format!("{call} {}", words[2])),
         };
     }
@@ -314,14 +312,33 @@ fn two_thousand_cases_meet_every_answer_of_every_campaign_and_legendre_call() {
         ("counts", "0 15"),
         ("response", "0 6 14 15"),
         ("summary", "0 6 15"),
-        ("legendre sequence", "0 6 25"),
-        ("legendre recording", "0 5 6 7 25"),
-        ("legendre predict", "0 5 6 7 8 25"),
     ] {
         expected.extend(answers.split(' ').map(|answer| format!("{call} {answer}")));
     }
     for name in expected {
         assert!(met.contains(&name), "{name}");
+    }
+}
+
+#[test]
+fn the_cases_of_short_rooms_meet_every_answer_of_every_legendre_call() {
+    let mut printed = Vec::new();
+    second::door::print(1, 2000, &mut printed).unwrap();
+    let printed = String::from_utf8(printed).unwrap();
+    let met: BTreeSet<(&str, &str)> = printed
+        .lines()
+        .map(|line| line.split(' ').collect::<Vec<&str>>())
+        .filter(|words| words[1] == "legendre")
+        .map(|words| (words[2], words[3]))
+        .collect();
+    for (call, answers) in [
+        ("sequence", "0 6 25"),
+        ("recording", "0 5 6 7 25"),
+        ("predict", "0 5 6 7 8 25"),
+    ] {
+        for answer in answers.split(' ') {
+            assert!(met.contains(&(call, answer)), "{call} {answer}");
+        }
     }
 }
 

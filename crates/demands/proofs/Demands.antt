@@ -95,7 +95,7 @@ use Rattle.campaign.specs.declared.Verdict.TheVariants as verdict
 use Rattle.trend.specs.Calls.{worked, mean_at, counts_outcome, counts_number, response_checks, response_outcome, summary_checks, summary_outcome, summary_number}
 use Rattle.trend.proofs.Bounds.{worked_small, mean_fits}
 use Rattle.trend.proofs.Enough as of_trend
-use Rattle.trend.proofs.Late.{Opposed}
+use Rattle.trend.proofs.Opposed.{Opposed}
 use Rattle.trend.proofs.MeansAlone.{in_edition, same_counts, same_summary, same_but_means}
 use Rattle.trend.specs.declared.Counts.TheVariants as counts
 use Rattle.trend.specs.declared.Levels.{Levels}

@@ -24,7 +24,8 @@ use Rattle.trend.specs.Calls.{worked, divisor, mean_at, levels_of, summary_outco
 use Rattle.trend.specs.declared.Levels.{Levels}
 use Rattle.trend.specs.declared.Summary.TheVariants.{Measured}
 use Rattle.trend.proofs.Bounds.{divisor-some, divisor_small, worked_small}
-use Rattle.trend.proofs.Late.{Opposed, Turns, Unmoved, levels_unmoved, levels_turn, opposed_levels}
+use Rattle.trend.proofs.Opposed.{Opposed}
+use Rattle.trend.proofs.Late.{Turns, Unmoved, levels_unmoved, levels_turn, opposed_levels}
 use Rattle.trend.proofs.Late as trend_late
 use Rattle.history.specs.Run.{World}
 use Rattle.history.proofs.ExactLevels.{levels, carried, carries_some}

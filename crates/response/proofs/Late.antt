@@ -41,9 +41,12 @@ module _ (P : ℕ) (x y : ℕ → ℤ) (d : ℕ) where
   correlation-late k h =
       sum_ext P (λ j _. ap (λ i. y ((j + d) % P) *ℤ x i) (same_place j k h)) ∙ sum-turn P d (λ i. y i *ℤ x ((i + (P - (k + d) % P)) % P))
 
-  pub response-late : (k : ℕ) → k < P → response P x (turned P d y) k ≡ turned P d (response P x y) k
+  turned_response : (k : ℕ) → k < P → response P x (turned P d y) k ≡ turned P d (response P x y) k
   unfolding response
-  response-late k h = ap₂ ◌-ℤ◌ (correlation-late k h) (sum-turn P d y)
+  turned_response k h = ap₂ ◌-ℤ◌ (correlation-late k h) (sum-turn P d y)
+
+  pub response-late : (k : ℕ) → k < P → response P x (turned P d y) k ≡ turned P d (response P x y) k
+  response-late = turned_response
 
 -- ---- one recording
 
@@ -97,7 +100,7 @@ module _ (N taps d : ℕ) (y out room : List ℤ) (tags : List ℕ) where
           → response (P N) (wave N taps) (at (late (P N) d y)) k
           ≡ turned (P N) d (at (put (table (P N) (response (P N) (wave N taps) (at y))) out)) k
       each e k l =
-          response_ext (P N) (wave N taps) (late_turned (P N) d y e) k ∙ response-late (P N) (wave N taps) (at y) d k l
+          response_ext (P N) (wave N taps) (late_turned (P N) d y e) k ∙ turned_response (P N) (wave N taps) (at y) d k l
           ∙ sym (at-put (P N) (response (P N) (wave N taps) (at y)) out ((k + d) % P N) (pos 0) (mod-lt (k + d) (omega arith)))
 
       go : (n : ℕ) → first (recording_checks N taps y out room tags) ≡ n → let o = answered n refused (accepted (response (P N) (wave N taps) (at y))) in o.0 ≡ 0

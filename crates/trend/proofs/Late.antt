@@ -22,6 +22,7 @@ use Rattle.trend.specs.Calls.{extremes_of, level, levels_of}
 use Rattle.trend.specs.declared.Levels.{Levels}
 use Rattle.trend.proofs.Leveling.{peak_is}
 use Rattle.trend.proofs.LevelSign.{level_negative, level_other}
+use Rattle.trend.proofs.Opposed.{Opposed}
 
 -- ---- the whole numbers
 
@@ -49,17 +50,6 @@ above_size (negsuc a) h = omega arith
 not_both : (z : ℤ) → Apart z z → ⊥
 not_both (pos a) h = omega (arith, ltb-true a 0 h.1)
 not_both (negsuc a) h = subst T (sym h.0) tt
-
--- two of the n places where r is largest in size have opposite signs
-pub record Opposed (n : ℕ) (r : ℕ → ℤ) : Type 0 where
-  pub one : ℕ
-  pub other : ℕ
-  pub one-within : one < n
-  pub other_within : other < n
-  pub one-largest : (i : ℕ) → i < n → nat_abs (r i) ≤ nat_abs (r one)
-  pub other_largest : (i : ℕ) → i < n → nat_abs (r i) ≤ nat_abs (r other)
-  pub above : lt_z (pos 0) (r one) ≡ true
-  pub below : lt_z (r other) (pos 0) ≡ true
 
 -- the place of the peak
 abbrev peak_at : ℕ → (ℕ → ℤ) → ℕ

@@ -5,4 +5,5 @@ pub mod Enough
 pub mod Passing
 pub mod MeansAlone
 pub mod LevelSign
+pub mod Opposed
 pub mod Late
