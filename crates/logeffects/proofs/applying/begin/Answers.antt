@@ -1,13 +1,12 @@
 -- `logeffects::applying::begin` meets its contract. Assumes nothing.
-use mathlib.Core.Path.{◌≡◌, refl, sym, ap, ◌∙◌}
+use mathlib.Core.Path.{◌≡◌, sym, ap, ◌∙◌}
 use mathlib.Core.List.{List}
 use Prim.Native.Nat.{ℕ}
 use lib.IntN.{ℤ}
 use Rattle.sums.specs.Refusals.{first}
 use Rattle.sums.proofs.First.{refused_with, accepted_with}
-use Rattle.register.specs.Calls.{answer_of, Reached}
+use Rattle.register.specs.Calls.{answer_of}
 use Rattle.register.specs.declared.Answer.{Answer}
-use Rattle.register.proofs.HowShort.{reached}
 use Rattle.rounding.specs.Rounding.{away_from_zero}
 use Rattle.records.specs.declared.Campaign.{Campaign}
 use Rattle.campaign.specs.Calls.{start_outcome}
@@ -17,9 +16,6 @@ use Rattle.logeffects.specs.declared.Applied.{Applied}
 use Rattle.logeffects.proofs.applying.begin.Goals as goal
 
 module _ (c : Campaign) (N taps C : ℕ) (store sums : List ℤ) (n : ℕ) (e : n ≡ first (log_start_checks N taps C)) where
-  seen : Reached N taps n
-  seen = rw e (reached N taps (log_start_checks N taps C) refl)
-
   refused : {a : Answer} → a ≡ answer_of N taps n → (n ≡ 0 → ⊥) → {x : Applied} → x ≡ started_by (record { answer = a; campaign = c })
       → (x, store, sums) ≡ began_outcome c N taps C store sums
   unfolding began_outcome

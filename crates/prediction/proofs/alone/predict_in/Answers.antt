@@ -8,7 +8,7 @@ use lib.ListN.{length}
 use lib.Pow.{suc_ones}
 use Rattle.sums.specs.Lists.{at, table, put}
 use Rattle.sums.proofs.Somewhere.{some_ext}
-use Rattle.sums.proofs.Tables.{at-put, length-table, length-put, table_ext}
+use Rattle.sums.proofs.Tables.{at-put, table_ext}
 use Rattle.register.specs.Register.{P, window, wave, tag, Accepted}
 use Rattle.register.proofs.Windows.{window-lt}
 use Rattle.register.proofs.Word.{small}
@@ -26,9 +26,6 @@ module _ (N taps : ℕ) (a : Accepted N taps) (h was v t : List ℤ) (laid : Lai
     (long : P N < length was) (e : t ≡ put (table (2 ^ N) (spectrum N v)) v) where
   room_long : P N < length v
   room_long = omega (arith, laid.long)
-
-  same-room : length t ≡ length v
-  same-room = rw e (length-put (table (2 ^ N) (spectrum N v)) v (omega (arith, length-table (2 ^ N) (spectrum N v), suc_ones N, room_long)))
 
   heard : (j : ℕ) → at t (window N taps j) ≡ prediction (P N) (wave N taps) (at h) j
   heard j =
