@@ -13,7 +13,7 @@ use register::shift::full_period;
 use register::taps::taps_refusal;
 use register::telling::tell;
 use rounding::editions::is_edition;
-use samples::clearing::{clear_samples, clear_wide};
+use samples::clearing::fill_front;
 
 // Whether the store is short of C·P samples, or the sums of P.
 fn memory_short(capacity: usize, period: usize, store: usize, sums: usize) -> bool
@@ -71,8 +71,8 @@ pub fn start(
         };
     }
     let period = full_period(order) as usize;
-    clear_samples(store, capacity as usize * period);
-    clear_wide(sums, period);
+    fill_front(store, capacity as usize * period, 0);
+    fill_front(sums, period, 0);
     Started {
         answer,
         campaign: blank(order, taps, capacity, edition),

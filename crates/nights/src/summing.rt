@@ -1,32 +1,9 @@
 // The periods of a night summed place by place.
-ghost use Rattle.std.specs.Prelude.{◌≡◌, ℕ, ◌*◌, ◌^◌, ◌≤◌, ◌<◌, nat_abs, ◌+ℤ◌, length};
-ghost use Rattle.sums.specs.Lists.{at, table, put};
+ghost use Rattle.std.specs.Prelude.{◌≡◌, ℕ, ◌*◌, ◌≤◌, ◌<◌, nat_abs, length};
+ghost use Rattle.sums.specs.Lists.{at};
 ghost use Rattle.nights.specs.Nights.{term};
 
-// Samples in the place of a row's first.
-fn copy_in(part: &[i32], row: &mut [i32])
-    requires { length part.now ≤ length row.old }
-    ensures { row.new ≡ put (table (length part.now) (at part.now)) row.old }
-{
-    let mut j = 0;
-    while j < part.len() {
-        row[j] = part[j];
-        j += 1;
-    }
-}
-
-// Samples added to those of a row.
-fn add_samples(part: &[i32], row: &mut [i32])
-    requires part_len { (length part.now ≡ length row.old) × ((j : ℕ) → j < length row.old → nat_abs (at row.old j) ≤ 2 ^ 28) }
-    requires by_index { (j : ℕ) → j < length part.now → nat_abs (at part.now j) ≤ 2 ^ 28 }
-    ensures { row.new ≡ table (length row.old) (λ j. at row.old j +ℤ at part.now j) }
-{
-    let mut j = 0;
-    while j < part.len() {
-        row[j] += part[j];
-        j += 1;
-    }
-}
+use samples::rows::{add_in, copy_in};
 
 // The sum of m periods, one at least, in the place of a row.
 pub fn sum_periods(z: &[i32], m: usize, row: &mut [i32])
@@ -36,11 +13,9 @@ pub fn sum_periods(z: &[i32], m: usize, row: &mut [i32])
 {
     let period = row.len();
     copy_in(&z[..period], row);
-    let mut i = 1;
-    while i < m {
+    for i in 1..m {
         let from = i * period;
         let to = from + period;
-        add_samples(&z[from..to], row);
-        i += 1;
+        add_in(&z[from..to], row);
     }
 }

@@ -10,7 +10,6 @@ use register::shift::{full_period, step};
 use response::spread::widened;
 use samples::HIGHEST_SAMPLE;
 use samples::range::sample_out;
-use samples::size::size;
 
 // Whether some of the first numbers is not 0.
 fn some_used(room: &[i64], count: usize) -> bool
@@ -35,7 +34,7 @@ fn may_be_loud(h: &[i32]) -> bool
     let mut sum: u64 = 0;
     let mut i = 0;
     while i < h.len() {
-        sum += size(widened(h, i));
+        sum += widened(h, i).unsigned_abs();
         i += 1;
     }
     sum > HIGHEST_SAMPLE as u64

@@ -11,7 +11,7 @@ use crate::direct::known_loud;
 use register::Answer;
 use register::telling::tell;
 use response::given::given_refusal;
-use samples::clearing::clear_wide;
+use samples::clearing::fill_front;
 use samples::lengths::lent_short;
 use samples::range::some_out;
 
@@ -26,7 +26,7 @@ fn predict_lent(order: u32, taps: u32, h: &[i32], out: &mut [i32], room: &mut [i
         return 8;
     }
     let answer = predict_in(order, taps, h, out, room);
-    clear_wide(room, h.len() + 1);
+    fill_front(room, h.len() + 1, 0);
     answer
 }
 

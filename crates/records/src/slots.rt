@@ -5,7 +5,7 @@ ghost use Rattle.nights.specs.Nights.{term};
 
 use crate::stored::add_row;
 use nights::summing::sum_periods;
-use samples::clearing::clear_samples;
+use samples::clearing::fill_front;
 use samples::range::{least_of, most_of};
 
 // A row's samples leave the sums.
@@ -44,5 +44,5 @@ pub fn empty_slot(s: usize, period: usize, store: &mut [i32], sums: &mut [i64])
     let from = s * period;
     let to = from + period;
     take_out(&store[from..to], sums);
-    clear_samples(&mut store[from..to], period);
+    fill_front(&mut store[from..to], period, 0);
 }

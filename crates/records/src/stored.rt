@@ -6,7 +6,7 @@ ghost use Rattle.samples.specs.Samples.{within};
 ghost use Rattle.sums.specs.Equal.{eq_z};
 ghost use Rattle.records.specs.Blocks.{Block};
 
-use samples::clearing::clear_wide;
+use samples::clearing::fill_front;
 use samples::range::{between, least_of, most_of};
 
 // How many places a block has: its sums stay in the processor's nearest memory.
@@ -97,7 +97,7 @@ fn block_holds(
     ensures { (result ≡ true → Block slots.now periods.now capacity period store.now sums.now from count)
         × (Block slots.now periods.now capacity period store.now sums.now from count → result ≡ true) }
 {
-    clear_wide(found, count);
+    fill_front(found, count, 0);
     let mut s = 0;
     while s < capacity {
         let at = s * period + from;

@@ -7,7 +7,6 @@ ghost use Rattle.report.specs.Lines.{line_bytes, row_bytes, bad_bytes, Wrote};
 use crate::{LINE_ROOM, Line, Text};
 use campaign::{Entry, Verdict};
 use register::Answer;
-use samples::size::size;
 use trend::Tally;
 
 const SPACE: u8 = 32;
@@ -90,9 +89,9 @@ fn put_signed(z: i64, out: &mut [u8], at: usize) -> usize
 {
     if z < 0 {
         let next = put_byte(b'-', out, at);
-        return put_number(size(z), out, next);
+        return put_number(z.unsigned_abs(), out, next);
     }
-    put_number(size(z), out, at)
+    put_number(z.unsigned_abs(), out, at)
 }
 
 fn put_verdict(verdict: Verdict, out: &mut [u8], at: usize) -> usize

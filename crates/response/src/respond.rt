@@ -9,7 +9,7 @@ ghost use Rattle.sums.specs.Lists.{table, put};
 
 use crate::gather::gather;
 use hadamard::transform;
-use samples::clearing::{clear_tags, clear_wide};
+use samples::clearing::fill_front;
 
 // The transform of the room's first P+1, in their place.
 pub fn transform_room(order: u32, room: &mut [i64], count: usize)
@@ -47,6 +47,6 @@ pub fn finish(
         × (tags.new ≡ cleared_tags (P order) tags.old) }
 {
     respond(order, taps, room, out, period);
-    clear_wide(room, period + 1);
-    clear_tags(tags, period);
+    fill_front(room, period + 1, 0);
+    fill_front(tags, period, 0);
 }

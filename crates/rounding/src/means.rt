@@ -8,7 +8,6 @@ ghost use Rattle.rounding.specs.Halving.{Split, Exact, reciprocal as reciprocal_
 
 use crate::editions::settle;
 use crate::{Halved, TO_EVEN};
-use samples::size::size;
 
 // How often a divisor is halved at most, and the most that may be left of it for a reciprocal to be exact enough: of a size, and of a quotient that is raised.
 const MOST_HALVINGS: u32 = 26;
@@ -119,7 +118,7 @@ fn mean_as(edition: u32, r: i64, d: u64, shift: u32, m: u64, raised: bool) -> i6
     if raised {
         return even_by(r, d, shift, m);
     }
-    with_sign(r, near_as(edition, size(r), d, shift, m))
+    with_sign(r, near_as(edition, r.unsigned_abs(), d, shift, m))
 }
 
 // The mean of each of the first `period`, at its place.

@@ -62,10 +62,8 @@ pub fn some_beyond(low: i32, high: i32, y: &[i32]) -> bool
     ensures { result ≡ some (length y.now) (λ j. lt_z (at y.now j) low || lt_z high (at y.now j)) }
 {
     let mut out = false;
-    let mut j = 0;
-    while j < y.len() {
-        out = either(out, beyond(low, high, y[j]));
-        j += 1;
+    for &x in y {
+        out = either(out, beyond(low, high, x));
     }
     out
 }

@@ -7,11 +7,7 @@ pub fn copy_in(part: &[i32], row: &mut [i32])
     requires { length part.now ≤ length row.old }
     ensures { row.new ≡ put (table (length part.now) (at part.now)) row.old }
 {
-    let mut j = 0;
-    while j < part.len() {
-        row[j] = part[j];
-        j += 1;
-    }
+    row[..part.len()].copy_from_slice(part);
 }
 
 // Samples added to a row's first.
@@ -19,9 +15,7 @@ pub fn add_in(part: &[i32], row: &mut [i32])
     requires { (length part.now ≤ length row.old) × ((j : ℕ) → j < length part.now → nat_abs (at row.old j) + nat_abs (at part.now j) < 2 ^ 31) }
     ensures { row.new ≡ put (table (length part.now) (λ j. at row.old j +ℤ at part.now j)) row.old }
 {
-    let mut j = 0;
-    while j < part.len() {
+    for j in 0..part.len() {
         row[j] += part[j];
-        j += 1;
     }
 }

@@ -12,8 +12,7 @@ use register::shift::{full_period, tag_step};
 use response::gather::reading;
 use response::respond::transform_room;
 use response::spread::spread_wide;
-use samples::clearing::{clear_tags, clear_wide};
-use samples::size::size;
+use samples::clearing::fill_front;
 
 // A whole number over another.
 pub fn level_of(z: i64, d: u64) -> f64
@@ -43,7 +42,7 @@ fn lower(old: i64, new: i64) -> i64
 fn larger(old: i64, new: i64) -> i64
     ensures { result ≡ cond (leb (nat_abs old) (nat_abs new)) new old }
 {
-    if size(old) <= size(new) { new } else { old }
+    if old.unsigned_abs() <= new.unsigned_abs() { new } else { old }
 }
 
 // The extremes of what stands at the places of the response, read from the last place to the first, so that the first of those that tie is kept.
@@ -84,7 +83,7 @@ pub fn measure(order: u32, taps: u32, y: &[i64], room: &mut [i64], tags: &mut [u
     spread_wide(order, taps, y, room, period);
     transform_room(order, room, period + 1);
     let extremes = read_extremes(order, taps, room, period);
-    clear_wide(room, period + 1);
-    clear_tags(tags, period);
+    fill_front(room, period + 1, 0);
+    fill_front(tags, period, 0);
     extremes
 }

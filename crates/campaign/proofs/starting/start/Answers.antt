@@ -44,5 +44,5 @@ returns c =
     let a = c.args in
     accepted a.c a.order a.taps a.capacity a.edition a.store.now a.sums.now _ c.start_refusal-refusal.ensures c.tell-answer.ensures c.if-refusal-ne0.false
     c.blank.ensures
-    (c.clear_samples.ensures ∙ ap (λ n. cleared_wide (a.capacity * n) a.store.now) c.full_period-period.ensures)
-    (c.clear_wide.ensures ∙ ap (λ n. cleared_wide n a.sums.now) c.full_period-period.ensures)
+    (c.fill_front.ensures ∙ ap (λ n. cleared_wide (a.capacity * n) a.store.now) c.full_period-period.ensures)
+    (c.fill_front.ensures ∙ ap (λ n. cleared_wide n a.sums.now) c.full_period-period.ensures)

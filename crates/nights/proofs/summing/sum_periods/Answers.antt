@@ -45,6 +45,17 @@ module _ (P m : ℕ) (z : List ℤ) (long : length z ≡ m * P) where
       (get_or-take (k + P - k) (drop k z) j (pos 0) (omega arith) ∙ get_or-drop k z j (pos 0) ∙ ap (λ n. at z (n + j)) h)
       ∙ sym (sum-suc i (λ n. at z (n * P + j))) ∙ ap (λ n. sum n (λ i. at z (i * P + j))) (sym (add-one i)))
 
+  -- period i is as long as the row
+  part_long : (row : List ℤ) (i k : ℕ) → i < m → k ≡ i * P → row ≡ term P i z → length (take (k + P - k) (drop k z)) ≡ length row
+  part_long row i k l h e =
+      let n : k + P - k ≡ P = omega arith in
+      ap (λ n. length (take n (drop k z))) n ∙ length-take-le P (drop k z) (omega (arith, length-drop k z, ends i l)) ∙ sym (ap length e ∙ term_long P i z)
+
+  part_small : ((j : ℕ) → j < length z → nat_abs (at z j) ≤ 8388608) → (i k j : ℕ) → i < m → k ≡ i * P → j < P
+      → nat_abs (at (take (k + P - k) (drop k z)) j) ≤ 8388608
+  part_small s i k j l h a =
+      let e = get_or-take (k + P - k) (drop k z) j (pos 0) (omega arith) ∙ get_or-drop k z j (pos 0) in omega (arith, ap nat_abs e, s (k + j) (omega (arith, ends i l)))
+
 -- period i lies in z
 lies : (c : In-loop-i) → c.loop-i.i * length c.args.row.now + length c.args.row.now ≤ length c.args.z.now
 lies c =
@@ -52,19 +63,29 @@ lies c =
 
 pub loop-i-init : goal.loop-i-init
 loop-i-init c =
-    (c.requires.le_m.0, c.copy_in.ensures ∙ first-in (length c.args.row.now) c.args.m c.args.z.now c.requires.le_m.3 c.args.row.now refl c.requires.le_m.0)
+    c.copy_in.ensures ∙ first-in (length c.args.row.now) c.args.m c.args.z.now c.requires.le_m.3 c.args.row.now refl c.requires.le_m.0
 
 pub loop-i-preserved : goal.loop-i-preserved
 loop-i-preserved c =
     let P = length c.args.row.now in
+    let z = c.args.z.now in
     let i = c.loop-i.i in
-    (omega arith, c.add_samples.ensures ∙ next P c.args.m c.args.z.now c.requires.le_m.3 c.loop-i.row i (i * P) c.loop-i-test.true refl c.loop-i.invariant.1)
+    c.add_in.ensures
+    ∙ written_all (record { is = refl }) (part_long P c.args.m z c.requires.le_m.3 c.loop-i.row i (i * P) c.loop-i-test.true refl c.loop-i.invariant)
+    ∙ next P c.args.m z c.requires.le_m.3 c.loop-i.row i (i * P) c.loop-i-test.true refl c.loop-i.invariant
 
-pub add_samples-requires-clause-part_len : goal.add_samples-requires-clause-part_len
-add_samples-requires-clause-part_len c =
+pub add_in-requires : goal.add_in-requires
+add_in-requires c =
     let P = length c.args.row.now in
     let z = c.args.z.now in
-    let k = c.loop-i.i * P in
-    let e : k + P - k ≡ P = omega arith in
-    let long : length (take (k + P - k) (drop k z)) ≡ P = ap (λ n. length (take n (drop k z))) e ∙ length-take-le P (drop k z) (omega (arith, length-drop k z, lies (goal.at.add_samples-requires-clause-part_len c).In-loop-i)) in
-    let wide = ap length c.loop-i.invariant.1 ∙ term_long P c.loop-i.i z in ((long ∙ sym wide, λ j h. rw c.loop-i.invariant.1 (small P c.args.m z c.requires.le_m.3 c.requires.by_index c.requires.le_m.1 c.loop-i.i j c.loop-i.invariant.0 (omega (arith, wide)))))
+    let i = c.loop-i.i in
+    let wide = ap length c.loop-i.invariant ∙ term_long P i z in
+    let same = part_long P c.args.m z c.requires.le_m.3 c.loop-i.row i (i * P) c.loop-i-test.true refl c.loop-i.invariant in (
+      omega (arith, same),
+      λ j h. rw c.loop-i.invariant
+          (omega (
+            arith,
+            small P c.args.m z c.requires.le_m.3 c.requires.by_index c.requires.le_m.1 i j (omega arith) (omega (arith, wide, same)),
+            part_small P c.args.m z c.requires.le_m.3 c.requires.by_index i (i * P) j c.loop-i-test.true refl (omega (arith, wide, same)),
+          )),
+    )

@@ -15,7 +15,7 @@ returns c =
     let store = c.args.store.now in
     let sums = c.args.sums.now in
     let zeros = table n (λ _. pos 0) in (
-      part_put k n store c.requires.s_bound.2 zeros _ (length-table n (λ _. pos 0)) c.clear_samples.ensures,
+      part_put k n store c.requires.s_bound.2 zeros _ (length-table n (λ _. pos 0)) c.fill_front.ensures,
       c.take_out.ensures
           ∙ ap (λ v. put v sums)
           (ap (λ m. table m (λ j. at sums j -ℤ at (mid_of k (k + n - k) store) j)) (part_length k n store c.requires.s_bound.2)

@@ -48,7 +48,7 @@ told c =
     rw long at c.take_row.ensures.0
 
 -- the room lent is as long as it was
-kept-long : (c : After-take_row) → length c.take_row.new.sums ≡ length c.clear_wide.new.v
+kept-long : (c : After-take_row) → length c.take_row.new.sums ≡ length c.fill_front.new.v
 kept-long c = c.take_row.auto.sums ∙ c.loop-s.invariant.1
 
 -- the part of the sums that is compared
@@ -71,7 +71,7 @@ compared c =
 
 pub loop-s-init : goal.loop-s-init
 loop-s-init c =
-    (omega arith, refl, none_read _ _ _ _ _ _ (λ j l. ap (λ v. at v j) c.clear_wide.ensures ∙ at-put c.args.count (λ _. pos 0) c.args.found.now j (pos 0) l))
+    (omega arith, refl, none_read _ _ _ _ _ _ (λ j l. ap (λ v. at v j) c.fill_front.ensures ∙ at-put c.args.count (λ _. pos 0) c.args.found.now j (pos 0) l))
 
 pub returns-then-not-take_row : goal.returns-then-not-take_row
 returns-then-not-take_row c =
@@ -104,7 +104,7 @@ pub take_row-requires-clause-row_in_bounds : goal.take_row-requires-clause-row_i
 take_row-requires-clause-row_in_bounds c =
     let a = c.args in
     let i = c.loop-s.invariant in
-    let cleared = c.clear_wide.auto.v in ((
+    let cleared = c.fill_front.auto.v in ((
       omega (arith, row_length a.period a.from a.count c.loop-s.s a.store.now a.capacity c.requires.capacity_bound.3 c.requires.count_bound.0 c.loop-s-test.true, i.1, c.requires.count_bound.1, cleared),
       λ j h. found_small _ _ _ _ _ _ i.2 (omega (arith, c.requires.capacity_bound.0)) (λ t k. c.requires.by_index t (omega arith)) j (omega (arith, row_length a.period a.from a.count c.loop-s.s a.store.now a.capacity c.requires.capacity_bound.3 c.requires.count_bound.0 c.loop-s-test.true)),
     ))

@@ -20,7 +20,7 @@ returns c =
     λ y was laid. (
       rw c.requires.accepted.1 at c.respond.ensures.0
           ∙ ap (λ t. put t c.args.out.now) (table_ext (P N) (λ k _. route N c.args.taps c.requires.accepted.0 long laid k)),
-      rw c.requires.accepted.1 at c.clear_wide.ensures
+      rw c.requires.accepted.1 at c.fill_front.ensures
           ∙ ap (cleared_wide (P N + 1)) c.respond.ensures.1 ∙ cleared_again N laid (spectrum N v),
-      rw c.requires.accepted.1 at c.clear_tags.ensures,
+      rw c.requires.accepted.1 at c.fill_front-2.ensures,
     )

@@ -14,16 +14,16 @@ use Rattle.samples.proofs.range.some_beyond.Goals.{After-beyond}
 
 -- what the test says of the value itself
 tested : (c : After-beyond)
-    → c.beyond.result ≡ outside (to_z w32 (of_z w32 c.args.low)) (to_z w32 (of_z w32 c.args.high)) c.args.y.now c.loop-j.j
+    → c.beyond.result ≡ outside (to_z w32 (of_z w32 c.args.low)) (to_z w32 (of_z w32 c.args.high)) c.args.y.now c.loop-x.x-index
 tested c =
     c.beyond.ensures
-    ∙ ap (λ z. lt_z z (to_z w32 (of_z w32 c.args.low)) || lt_z (to_z w32 (of_z w32 c.args.high)) z) (read w32 (at c.args.y.now c.loop-j.j) c.beyond-arg-1.given)
+    ∙ ap (λ z. lt_z z (to_z w32 (of_z w32 c.args.low)) || lt_z (to_z w32 (of_z w32 c.args.high)) z) (read w32 (at c.args.y.now c.loop-x.x-index) c.x-1.given)
 
-pub loop-j-init : goal.loop-j-init
+pub loop-x-init : goal.loop-x-init
 unfolding some
-loop-j-init c = (omega arith, refl)
+loop-x-init c = (omega arith, refl)
 
-pub loop-j-preserved : goal.loop-j-preserved
+pub loop-x-preserved : goal.loop-x-preserved
 unfolding some
-loop-j-preserved c =
-    (omega arith, rw add-one (c.either-out.ensures ∙ ap₂ ◌||◌ c.loop-j.invariant.1 (tested (goal.at.loop-j-preserved c).After-beyond)))
+loop-x-preserved c =
+    (omega arith, rw add-one (c.either-out.ensures ∙ ap₂ ◌||◌ c.loop-x.invariant.1 (tested (goal.at.loop-x-preserved c).After-beyond)))

@@ -2,7 +2,7 @@
 use mathlib.Core.Path.{◌≡◌}
 use mathlib.Core.Bool.{Bool, ◌||◌}
 use mathlib.Core.List.{List}
-use Prim.Native.Nat.{ℕ, ◌≤◌, ◌-◌}
+use Prim.Native.Nat.{ℕ, ◌≤◌}
 use lib.IntN.{ℤ}
 use lib.ListN.{length}
 use lib.Signed.{lt_z}
@@ -12,8 +12,5 @@ use Rattle.samples.proofs.range.some_beyond.Given as goal
 abbrev pub outside : ℤ → ℤ → List ℤ → ℕ → Bool
 outside low high y j = lt_z (at y j) low || lt_z high (at y j)
 
-abbrev pub invariant-loop-j : goal.invariant-loop-j
-invariant-loop-j l = (l.j ≤ length l.y) × (l.out ≡ some l.j (outside l.low l.high l.y))
-
-abbrev pub decreases-loop-j : goal.decreases-loop-j
-decreases-loop-j l = length l.y - l.j
+abbrev pub invariant-loop-x : goal.invariant-loop-x
+invariant-loop-x l = (l.x-index ≤ length l.y) × (l.out ≡ some l.x-index (outside l.low l.high l.y))

@@ -40,8 +40,8 @@ returns c =
     let a = c.requires.accepted.0 in (
       rw (c.transform_room.ensures, c.full_period-period.ensures) at c.read_extremes-extremes.ensures
           ∙ ap (extremes_of (P N)) (fun_ext (λ k. reads_at N taps v a k ∙ route N taps a (long (goal.at.returns c).After-spread_wide) c.spread_wide.ensures k)),
-      rw c.full_period-period.ensures at c.clear_wide.ensures ∙ ap (cleared_wide (P N + 1)) c.transform_room.ensures ∙ cleared_again N c.spread_wide.ensures (spectrum N v),
-      rw c.full_period-period.ensures at c.clear_tags.ensures,
+      rw c.full_period-period.ensures at c.fill_front.ensures ∙ ap (cleared_wide (P N + 1)) c.transform_room.ensures ∙ cleared_again N c.spread_wide.ensures (spectrum N v),
+      rw c.full_period-period.ensures at c.fill_front-2.ensures,
     )
 
 pub read_extremes-extremes-requires-clause-by_index : goal.read_extremes-extremes-requires-clause-by_index
