@@ -8,7 +8,7 @@ use borrow.Fn.Kinds.{ParamKind, ResultKind, Dens, Out, ended_of, res_t}
 use denote.Triple.Clauses.{AtExit}
 use lib.IntN.{ℤ}
 use Rattle.player.specs.Calls.{step_outcome, play_outcome}
-use Rattle.register.specs.declared.Answer.{Answer}
+use Rattle.refusals.specs.Causes.{Answer}
 use Rattle.register.proofs.HowShort.{same-told}
 use Rattle.defaults.specs.declared.DefaultTaps.{DefaultTaps}
 use Rattle.player.specs.declared.NewPlayer.{NewPlayer}

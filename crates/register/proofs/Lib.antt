@@ -12,3 +12,4 @@ pub mod Divisors
 pub mod OddTaps
 pub mod HowShort
 pub mod Sequences
+pub mod Answered

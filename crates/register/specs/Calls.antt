@@ -3,8 +3,8 @@
 use Rattle.std.specs.Prelude.{◌≡◌, List, [], ◌∷◌, ◌++◌, Bool, cond, not, ◌||◌, ℕ, ◌%◌, ◌^◌, eqb, ltb, leb, length}
 use Rattle.sums.specs.Lists.{table, put}
 use Rattle.sums.specs.Refusals.{first, outcome}
+use Rattle.refusals.specs.Causes.{Answer}
 use Rattle.register.specs.Register.{P, bit, period, Shaped, Accepted}
-use Rattle.register.specs.declared.Answer.{Answer}
 
 -- ---- the causes, by their numbers
 

@@ -12,13 +12,9 @@ fn join(order: u32, taps: u32, l: u32, m: u32) -> u32
 {
     let mut sum = 0;
     let mut tag = m;
-    let mut rest = l;
-    let mut i = 0;
-    while i < order {
-        sum = sum ^ (rest % 2 * tag);
+    for i in 0..order {
+        sum ^= (l >> i) % 2 * tag;
         tag = tag_step(order, taps, tag);
-        rest = rest / 2;
-        i += 1;
     }
     sum
 }
@@ -41,9 +37,7 @@ pub fn tag_at(order: u32, taps: u32, m: u32) -> u32
     ensures { result ≡ tag_of order taps m }
 {
     let mut tag = 1;
-    let mut k = order;
-    while 0 < k {
-        k -= 1;
+    for k in (0..order).rev() {
         tag = step_by(order, taps, join(order, taps, tag, tag), (m >> k) % 2);
     }
     tag
@@ -56,11 +50,9 @@ pub fn window_at(order: u32, taps: u32, m: u32) -> u32
 {
     let mut window = 0;
     let mut tag = tag_at(order, taps, m);
-    let mut i = 0;
-    while i < order {
-        window = window + (u32::count_ones(tag) % 2 << i);
+    for i in 0..order {
+        window += tag.count_ones() % 2 << i;
         tag = tag_step(order, taps, tag);
-        i += 1;
     }
     window
 }

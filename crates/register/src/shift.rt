@@ -16,7 +16,7 @@ pub fn step(order: u32, taps: u32, window: u32) -> u32
     requires window_bound { window < 2 ^ order }
     ensures { result ≡ step_of order taps window }
 {
-    let fresh = u32::count_ones(taps & window) % 2;
+    let fresh = (taps & window).count_ones() % 2;
     (window + (fresh << order)) / 2
 }
 

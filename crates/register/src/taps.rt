@@ -2,14 +2,15 @@
 // primes alone.
 ghost use Rattle.std.specs.Prelude.{◌≡◌, ◌&&◌, ◌^◌, ◌≤◌, ◌<◌, eqb};
 ghost use Rattle.sums.specs.Refusals.{first};
-ghost use Rattle.register.specs.Register.{P, tag as tag_of, Tapped};
+ghost use Rattle.refusals.specs.Causes.{answer, said};
+ghost use Rattle.register.specs.Register.{P, tag as tag_of, period, Tapped, Shaped};
 ghost use Rattle.register.specs.Doubling.{prime as prime_of, root_bound as root_bound_of, returns_at, returns_early};
 ghost use Rattle.register.specs.Calls.{answer_of, shape_checks, taps_answer};
 
-use crate::Answer;
 use crate::doubling::tag_at;
+use crate::returning::first_return;
 use crate::shift::full_period;
-use crate::telling::tell;
+use refusals::Refusal;
 
 // Whether the tags return after m steps, where that is asked.
 fn home(order: u32, taps: u32, m: u32, asked: bool) -> bool
@@ -64,55 +65,53 @@ fn returns_early(order: u32, taps: u32) -> bool
 {
     let whole = full_period(order);
     let end = root_bound(order);
-    let mut d = 1;
-    while d < end {
+    for d in 1..end {
         if returns_at(order, taps, whole, d) {
             return true;
         }
-        d += 1;
     }
     false
 }
 
-// The checks 1, 2 and 3: 0, or the refusal.
-pub fn check_shape(order: u32, taps: u32) -> u32
-    ensures { result ≡ first (shape_checks order taps) }
+// The checks 1, 2 and 3.
+pub fn check_shape(order: u32, taps: u32) -> Result<(), Refusal>
+    ensures { answer result ≡ first (shape_checks order taps) }
 {
-    if order < crate::LEAST_ORDER {
-        return 1;
-    }
-    if crate::MOST_ORDER < order {
-        return 1;
+    if order < crate::LEAST_ORDER || crate::MOST_ORDER < order {
+        return Err(Refusal::Order);
     }
     if full_period(order) < taps {
-        return 2;
+        return Err(Refusal::Taps);
     }
     if taps % 2 == 0 {
-        return 3;
+        return Err(Refusal::TapZero);
     }
-    0
+    Ok(())
 }
 
-// The first of 1, 2, 3, 4 that refuses the taps, and 0 where the register first returns to all ones after 2^order - 1 steps.
-pub fn taps_refusal(order: u32, taps: u32) -> u32
-    ensures { result ≡ taps_answer order taps }
+// Whether the register first returns to all ones after 2^order - 1 steps.
+fn is_maximal(order: u32, taps: u32) -> bool
+    requires { Shaped order taps }
+    ensures { result ≡ eqb (period order taps) (P order) }
 {
-    let refusal = check_shape(order, taps);
-    if refusal != 0 {
-        return refusal;
-    }
-    if tag_at(order, taps, full_period(order)) != 1 {
-        return 4;
-    }
-    if returns_early(order, taps) {
-        return 4;
-    }
-    0
+    tag_at(order, taps, full_period(order)) == 1 && !returns_early(order, taps)
 }
 
-// Taps check: the number, and the steps after which the register first returns to all ones.
-pub fn check_taps(order: u32, taps: u32) -> Answer
-    ensures { result ≡ answer_of order taps (taps_answer order taps) }
+// Whether the taps check accepts, for those who need not know how short a period is.
+pub fn accepts(order: u32, taps: u32) -> bool
+    ensures { result ≡ eqb (taps_answer order taps) 0 }
 {
-    tell(order, taps, taps_refusal(order, taps))
+    check_shape(order, taps).is_ok() && is_maximal(order, taps)
+}
+
+// Taps check: the steps after which the register first returns to all ones, refusing 1, 2, 3, 4. Only a refusal with 4 walks: an accepted register is known to
+// return after P steps.
+pub fn check_taps(order: u32, taps: u32) -> Result<u32, Refusal>
+    ensures { said result ≡ answer_of order taps (taps_answer order taps) }
+{
+    check_shape(order, taps)?;
+    if is_maximal(order, taps) {
+        return Ok(full_period(order));
+    }
+    Err(Refusal::NotMaximal(first_return(order, taps)))
 }

@@ -1,5 +1,6 @@
 -- The laws, from simple to strong.
 pub mod Diff
+pub mod Front
 pub mod Below
 pub mod Ring
 pub mod Bound

@@ -7,7 +7,7 @@ use Rattle.sums.specs.Refusals.{first}
 use Rattle.sums.proofs.First.{refused_with, accepted_with}
 use Rattle.register.specs.Register.{P}
 use Rattle.register.specs.Calls.{answer_of, Reached}
-use Rattle.register.specs.declared.Answer.{Answer}
+use Rattle.refusals.specs.Causes.{Answer}
 use Rattle.register.proofs.HowShort.{reached}
 use Rattle.samples.specs.Samples.{cleared_wide}
 use Rattle.records.specs.Record.{fresh}

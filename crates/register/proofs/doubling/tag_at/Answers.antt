@@ -17,11 +17,11 @@ split m k h =
     omega arith
 
 now-lt : (c : In-loop-k) → c.loop-k.tag < 2 ^ c.args.order
-now-lt c = rw c.loop-k.invariant.1 (tag-lt c.args.order c.args.taps c.requires.1 (c.args.m / 2 ^ c.loop-k.k))
+now-lt c = rw c.loop-k.invariant (tag-lt c.args.order c.args.taps c.requires.1 (c.args.m / 2 ^ c.loop-k.k))
 
 pub loop-k-init : goal.loop-k-init
 unfolding tag_of
-loop-k-init c = let a = c.args in (omega arith, sym (ap (tag_of a.order a.taps) (div-eq_of_lt c.requires.2)))
+loop-k-init c = let a = c.args in sym (ap (tag_of a.order a.taps) (div-eq_of_lt c.requires.2))
 
 pub join-requires : goal.join-requires
 join-requires c = (c.requires.0, c.requires.1, now-lt c)
@@ -33,8 +33,6 @@ step_by-tag-requires c =
 pub loop-k-preserved : goal.loop-k-preserved
 loop-k-preserved c =
     let l = c.loop-k in
-    let a = c.args in (
-      omega arith,
-      doubled a.order a.taps c.requires.1 (a.m / 2 ^ l.k) (a.m / 2 ^ (l.k - 1) % 2) l.invariant.1 c.join.ensures c.step_by-tag.ensures
-          ∙ ap (tag_of a.order a.taps) (split a.m l.k (omega arith)),
-    )
+    let a = c.args in
+    doubled a.order a.taps c.requires.1 (a.m / 2 ^ l.k) (a.m / 2 ^ (l.k - 1) % 2) l.invariant c.join.ensures c.step_by-tag.ensures
+    ∙ ap (tag_of a.order a.taps) (split a.m l.k (omega arith))

@@ -1,8 +1,7 @@
 -- `register::taps::returns_early` meets its contract: no divisor passed has a return. Assumes nothing.
 use mathlib.Core.Path.{◌≡◌, refl, sym, ap, ◌∙◌}
-use Prim.Native.Nat.{ℕ, suc, ◌+◌, ◌-◌, ◌/◌, ◌≤◌}
+use Prim.Native.Nat.{ℕ, suc, ◌+◌, ◌-◌, ◌≤◌}
 use native.Mathlib.Omega.{arith}
-use lib.Pow.{pow_pos}
 use Rattle.sums.specs.Lists.{some}
 use Rattle.sums.proofs.Somewhere.{some_at, some_past}
 use Rattle.register.specs.Doubling.{root_bound, returns_at}
@@ -21,7 +20,7 @@ ends c = c.root_bound-end.ensures
 
 pub loop-d-init : goal.loop-d-init
 unfolding some
-loop-d-init c = (omega arith, omega (arith, ends c, pow_pos ((c.args.order + 1) / 2)), refl)
+loop-d-init c = (omega arith, refl)
 
 pub returns_at-requires : goal.returns_at-requires
 returns_at-requires c =
@@ -39,7 +38,6 @@ loop-d-preserved c =
     let l = c.loop-d in
     let e : suc (l.d - 1) ≡ l.d + 1 - 1 = omega arith in (
       omega arith,
-      omega arith,
       ap (λ n. some n (test a.order a.taps)) (sym e)
-          ∙ some_past (test a.order a.taps) (l.d - 1) (at_place a.order a.taps l.d l.invariant.0 ∙ sym c.returns_at.ensures ∙ c.if-returns_at.false) l.invariant.2,
+          ∙ some_past (test a.order a.taps) (l.d - 1) (at_place a.order a.taps l.d l.invariant.0 ∙ sym c.returns_at.ensures ∙ c.if-returns_at.false) l.invariant.1,
     )

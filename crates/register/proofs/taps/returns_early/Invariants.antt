@@ -10,7 +10,4 @@ abbrev pub test : ℕ → ℕ → ℕ → Bool
 test N taps i = returns_at N taps (i + 1)
 
 abbrev pub invariant-loop-d : goal.invariant-loop-d
-invariant-loop-d l = (1 ≤ l.d) × (l.d ≤ l.end) × (some (l.d - 1) (test l.order l.taps) ≡ false)
-
-abbrev pub decreases-loop-d : goal.decreases-loop-d
-decreases-loop-d l = l.end - l.d
+invariant-loop-d l = (1 ≤ l.d) × (some (l.d - 1) (test l.order l.taps) ≡ false)

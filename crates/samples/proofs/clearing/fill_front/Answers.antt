@@ -1,7 +1,7 @@
 -- `samples::clearing::fill_front` meets its contract: the first numbers that were passed hold the value. Assumes nothing.
-use Rattle.std.proofs.Common.{◌≡◌, refl, ap, ◌∙◌, sym, ◌++◌, arith, length, length-take, drop, take}
-use Rattle.sums.specs.Lists.{table}
-use Rattle.sums.proofs.Tables.{written_none, written_more, written_all, put-table}
+use Rattle.std.proofs.Common.{refl, arith}
+use Rattle.sums.proofs.Front.{front_written}
+use Rattle.sums.proofs.Tables.{written_none, written_more}
 use Rattle.samples.proofs.clearing.fill_front.Goals as goal
 
 pub loop-x-init : goal.loop-x-init
@@ -11,8 +11,4 @@ pub loop-x-preserved : goal.loop-x-preserved
 loop-x-preserved g c = written_more c.loop-x.invariant (omega arith) refl
 
 pub returns : goal.returns
-returns g c =
-    let v = c.args.v.now in
-    let n = c.args.count in
-    let all : length (take n v) ≡ n = omega (arith, length-take n v) in
-    ap (λ l. l ++ drop n v) (written_all c.loop-x.invariant (omega arith) ∙ ap (λ m. table m (λ _. c.args.value)) all) ∙ sym (put-table n (λ _. c.args.value) v)
+returns g c = front_written c.args.count c.args.v.now c.loop-x.invariant c.requires (omega arith) (omega arith)
