@@ -1,9 +1,7 @@
 -- The default taps of an order: document 01, "Sequence and register", "Refusal numbers" and "Order of checks". Assumes nothing.
-use Rattle.std.specs.Prelude.{List, [], ◌∷◌, Bool, false, cond, ◌||◌, ℕ, eqb}
-use Rattle.sums.specs.Refusals.{outcome, Meaning, accepts, refuses}
+use Rattle.std.specs.Prelude.{List, [], ◌∷◌, Bool, false, cond, ◌||◌, ℕ, eqb, Result, Ok, Err}
+use Rattle.sums.specs.Refusals.{outcome}
 use Rattle.register.specs.Calls.{order_out}
-use Rattle.defaults.specs.declared.DefaultTaps.{DefaultTaps}
-use Rattle.defaults.specs.declared.DefaultTaps.TheVariants as default
 
 -- ---- default taps: 1
 
@@ -29,13 +27,5 @@ abbrev pub takes : List (List ℕ × ℕ) → ℕ → ℕ
 takes [] N = 0
 takes (row ∷ rows) N = cond (among N row.0) row.1 (takes rows N)
 
-unfoldable pub default_outcome : ℕ → DefaultTaps
-default_outcome N = outcome ((1, order_out N) ∷ []) default.Refused (default.Taps (takes default_rows N))
-
--- this paper's number for each case of the answer, and its value: the taps
-abbrev pub default_means : DefaultTaps → Meaning ℕ
-default_means (default.Taps taps) = accepts taps
-default_means (default.Refused n) = refuses n
-
-abbrev pub default_number : DefaultTaps → ℕ
-default_number d = (default_means d).0
+unfoldable pub default_outcome : ℕ → Result ℕ ℕ
+default_outcome N = outcome ((1, order_out N) ∷ []) Err (Ok (takes default_rows N))

@@ -2,10 +2,3 @@
 #![tactic(auto)]
 
 pub mod taps;
-
-#[derive(Clone, Copy)]
-pub enum DefaultTaps {
-    Taps(u32),
-    // The refusal's number.
-    Refused(u32),
-}

@@ -1,7 +1,7 @@
 -- A block of signs is as many calls of the step: each call of an accepted player gives the sign that the block has at its place, and the
 -- last leaves the block's player; of a refused player each call is refused, and leaves it. So blocks of any lengths join, and from any
 -- place of the sequence a block has the signs from there on, whatever the count. Assumes nothing.
-use Rattle.std.proofs.Common.{◌≡◌, ℕ, zero, suc, ◌+◌, ◌%◌, ◌^◌, List, [], ◌∷◌, ◌++◌, map, length, replicate, ℤ, sym, refl, ap, ◌∙◌, ap₂, add-zero, add-suc, zero-add, add-one, length-append}
+use Rattle.std.proofs.Common.{◌≡◌, ℕ, zero, suc, ◌+◌, ◌%◌, ◌^◌, List, [], ◌∷◌, ◌++◌, map, length, replicate, ℤ, sym, refl, ap, ◌∙◌, ap₂, add-zero, add-suc, zero-add, add-one, length-append, Result, Ok, Err}
 use native.Mathlib.Nat.{mod-add-mod}
 use native.Mathlib.Decide.{ℕ_discrete}
 use Rattle.sums.specs.Sum.{sign}
@@ -10,12 +10,8 @@ use Rattle.sums.specs.Refusals.{first, answered}
 use Rattle.sums.proofs.First.{answered_refused}
 use Rattle.sums.proofs.Tables.{table_ext, table_join}
 use Rattle.register.specs.Register.{window, bit, wave, Shaped}
-use Rattle.player.specs.Calls.{step_checks, advanced, fresh_player, step_outcome, after, sign_after, play_outcome}
+use Rattle.player.specs.Calls.{Stepped, Played, step_checks, advanced, fresh_player, step_outcome, after, sign_after, play_outcome}
 use Rattle.player.specs.declared.Player.{Player}
-use Rattle.player.specs.declared.Played.{Played}
-use Rattle.player.specs.declared.Stepped.{Stepped}
-use Rattle.player.specs.declared.Tick.{Tick}
-use Rattle.player.specs.declared.Tick.TheVariants.{Sign, Refused}
 use Rattle.register.proofs.Windows.{window-lt}
 use Rattle.register.proofs.Orbit.{window-pos}
 use Rattle.player.proofs.Playable.{playable, passes_step, next_playable, after_playable}
@@ -24,20 +20,20 @@ use Rattle.player.proofs.Playing.{placed}
 -- ---- n calls of the step
 
 -- the ticks of n calls, one after the other, and the player after the last
-unfoldable pub calls : ℕ → Player → List Tick × Player
+unfoldable pub calls : ℕ → Player → List (Result ℤ ℕ) × Player
 calls zero p = ([], p)
 calls (suc n) p = let s = step_outcome p in let l = calls n s.player in (s.tick ∷ l.0, l.1)
 
 -- an accepted step
-accepted : (p : Player) → first (step_checks p) ≡ 0 → step_outcome p ≡ record { tick = Sign (sign_after p 0); player = advanced p }
+accepted : (p : Player) → first (step_checks p) ≡ 0 → step_outcome p ≡ record { tick = Ok (sign_after p 0); player = advanced p }
 unfolding step_outcome after
 accepted p h = rw h
 
 -- a refused one
-refused : (p : Player) → (first (step_checks p) ≡ 0 → ⊥) → step_outcome p ≡ record { tick = Refused (first (step_checks p)); player = p }
+refused : (p : Player) → (first (step_checks p) ≡ 0 → ⊥) → step_outcome p ≡ record { tick = Err (first (step_checks p)); player = p }
 unfolding step_outcome after
 refused p h =
-    answered_refused (λ n. record { tick = Refused n; player = p }) (record { tick = Sign (sign_after p 0); player = advanced p })
+    answered_refused (λ n. record { tick = Err n; player = p }) (record { tick = Ok (sign_after p 0); player = advanced p })
     (first (step_checks p)) h
 
 -- one step first, or last
@@ -46,7 +42,7 @@ unfolding after
 after_first p zero = refl
 after_first p (suc k) = ap advanced (after_first p k)
 
-calls_accepted : (n : ℕ) (p : Player) → first (step_checks p) ≡ 0 → calls n p ≡ (map Sign (table n (sign_after p)), after p n)
+calls_accepted : (n : ℕ) (p : Player) → first (step_checks p) ≡ 0 → calls n p ≡ (map Ok (table n (sign_after p)), after p n)
 unfolding calls table after
 calls_accepted zero p h = refl
 calls_accepted (suc n) p h =
@@ -55,15 +51,15 @@ calls_accepted (suc n) p h =
     let signs : table n (sign_after q) ≡ table n (λ k. sign_after p (suc k)) =
     table_ext n (λ k _. ap (λ (a : Player). sign (a.window % 2)) (after_first p k)) in
     ap (λ (s : Stepped). (s.tick ∷ (calls n s.player).0, (calls n s.player).1)) (accepted p h)
-    ∙ ap (λ (l : List Tick × Player). (Sign (sign_after p 0) ∷ l.0, l.1)) (calls_accepted n q next)
-    ∙ ap₂ (λ (l : List ℤ) (a : Player). (Sign (sign_after p 0) ∷ map Sign l, a)) signs (after_first p n)
+    ∙ ap (λ (l : List (Result ℤ ℕ) × Player). (Ok (sign_after p 0) ∷ l.0, l.1)) (calls_accepted n q next)
+    ∙ ap₂ (λ (l : List ℤ) (a : Player). (Ok (sign_after p 0) ∷ map Ok l, a)) signs (after_first p n)
 
-calls_refused : (n : ℕ) (p : Player) → (first (step_checks p) ≡ 0 → ⊥) → calls n p ≡ (replicate n (Refused (first (step_checks p))), p)
+calls_refused : (n : ℕ) (p : Player) → (first (step_checks p) ≡ 0 → ⊥) → calls n p ≡ (replicate n (Err (first (step_checks p))), p)
 unfolding calls
 calls_refused zero p h = refl
 calls_refused (suc n) p h =
     ap (λ (s : Stepped). (s.tick ∷ (calls n s.player).0, (calls n s.player).1)) (refused p h)
-    ∙ ap (λ (l : List Tick × Player). (Refused (first (step_checks p)) ∷ l.0, l.1)) (calls_refused n p h)
+    ∙ ap (λ (l : List (Result ℤ ℕ) × Player). (Err (first (step_checks p)) ∷ l.0, l.1)) (calls_refused n p h)
 
 -- ---- a block is as many calls as it has places
 
@@ -80,14 +76,14 @@ block_refused p signs h =
     (record { answer = 0; player = after p (length signs) }, table (length signs) (sign_after p)) (first (step_checks p)) h
 
 -- what the calls give, by what the block hands back: each the refusal, or each a sign of it
-abbrev pub ticks : Played × List ℤ → List Tick
-ticks r = answered r.0.answer (λ n. replicate (length r.1) (Refused n)) (map Sign r.1)
+abbrev pub ticks : Played × List ℤ → List (Result ℤ ℕ)
+ticks r = answered r.0.answer (λ n. replicate (length r.1) (Err n)) (map Ok r.1)
 
 pub block_is_calls : (p : Player) (signs : List ℤ) → calls (length signs) p ≡ (ticks (play_outcome p signs), (play_outcome p signs).0.player)
 block_is_calls p signs = elim (ℕ_discrete (first (step_checks p)) 0) [
   | yes h ↦ calls_accepted (length signs) p h ∙ ap (λ (r : Played × List ℤ). (ticks r, r.0.player)) (sym (block_accepted p signs h))
   | no h ↦ calls_refused (length signs) p h
-      ∙ ap (λ (l : List Tick). (l, p)) (sym (answered_refused (λ n. replicate (length signs) (Refused n)) (map Sign signs) (first (step_checks p)) h))
+      ∙ ap (λ (l : List (Result ℤ ℕ)). (l, p)) (sym (answered_refused (λ n. replicate (length signs) (Err n)) (map Ok signs) (first (step_checks p)) h))
       ∙ ap (λ (r : Played × List ℤ). (ticks r, r.0.player)) (sym (block_refused p signs h))
 ]
 

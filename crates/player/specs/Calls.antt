@@ -1,26 +1,23 @@
 -- The player's calls, each by one function from all that is handed in to all that is handed back: document 01, "Sequence and register",
 -- "Refusal numbers" and "Order of checks". Assumes nothing.
-use Rattle.std.specs.Prelude.{ℕ, zero, suc, ◌+◌, ◌%◌, ◌^◌, Bool, ◌||◌, List, [], ◌∷◌, ◌++◌, length, ℤ, ◌==◌, nat_le}
+use Rattle.std.specs.Prelude.{ℕ, zero, suc, ◌+◌, ◌%◌, ◌^◌, Bool, ◌||◌, List, [], ◌∷◌, ◌++◌, length, ℤ, ◌==◌, nat_le, Result, Ok, Err}
 use Rattle.sums.specs.Sum.{sign}
 use Rattle.sums.specs.Lists.{table}
-use Rattle.sums.specs.Refusals.{outcome, Meaning, accepts, refuses}
+use Rattle.sums.specs.Refusals.{outcome}
+use Rattle.refusals.specs.Causes.{answer, numbered}
 use Rattle.register.specs.Register.{P, step}
 use Rattle.register.specs.Calls.{shape_checks}
 use Rattle.player.specs.declared.Player.{Player}
-use Rattle.player.specs.declared.NewPlayer.{NewPlayer}
-use Rattle.player.specs.declared.NewPlayer.TheVariants as new
-use Rattle.player.specs.declared.Tick.{Tick}
-use Rattle.player.specs.declared.Tick.TheVariants as tick
-use Rattle.player.specs.declared.Stepped.{Stepped}
-use Rattle.player.specs.declared.Played.{Played}
+use Rattle.player.specs.declared.Stepped as step_code
+use Rattle.player.specs.declared.Played as play_code
 
 -- ---- new player: 1, 2, 3
 
 abbrev pub fresh_player : ℕ → ℕ → Player
 fresh_player N taps = record { order = N; taps = taps; window = P N; count = 0 }
 
-unfoldable pub new_outcome : ℕ → ℕ → NewPlayer
-new_outcome N taps = outcome (shape_checks N taps) new.Refused (new.Ready (fresh_player N taps))
+unfoldable pub new_outcome : ℕ → ℕ → Result Player ℕ
+new_outcome N taps = outcome (shape_checks N taps) Err (Ok (fresh_player N taps))
 
 -- ---- player step: 1, 2, 3, 16; the next sign, and the player
 
@@ -39,10 +36,18 @@ abbrev pub advanced : Player → Player
 advanced p =
     record { order = p.order; taps = p.taps; window = step p.order p.taps p.window; count = onward p.count }
 
+-- a sign or a refusal's number, and the player
+pub record Stepped : Type 0 where
+  pub tick : Result ℤ ℕ
+  pub player : Player
+
+abbrev pub stepped_as : step_code.Stepped → Stepped
+stepped_as s = record { tick = numbered s.tick; player = s.player }
+
 unfoldable pub step_outcome : Player → Stepped
 step_outcome p =
-    outcome (step_checks p) (λ n. record { tick = tick.Refused n; player = p })
-    (record { tick = tick.Sign (sign (p.window % 2)); player = advanced p })
+    outcome (step_checks p) (λ n. record { tick = Err n; player = p })
+    (record { tick = Ok (sign (p.window % 2)); player = advanced p })
 
 -- ---- a block of signs: the player step's checks; the answer and the player, and a sign at each place
 
@@ -55,23 +60,15 @@ after p (suc k) = advanced (after p k)
 abbrev pub sign_after : Player → ℕ → ℤ
 sign_after p k = sign ((after p k).window % 2)
 
+-- 0 or a refusal's number, and the player
+pub record Played : Type 0 where
+  pub answer : ℕ
+  pub player : Player
+
+abbrev pub played_as : play_code.Played → Played
+played_as p = record { answer = answer p.answer; player = p.player }
+
 unfoldable pub play_outcome : Player → List ℤ → Played × List ℤ
 play_outcome p signs =
     outcome (step_checks p) (λ n. (record { answer = n; player = p }, signs))
     (record { answer = 0; player = after p (length signs) }, table (length signs) (sign_after p))
-
--- ---- this paper's number for each case of an answer, 0 where it is accepted, and its value: the player, the sign
-
-abbrev pub new_means : NewPlayer → Meaning Player
-new_means (new.Ready p) = accepts p
-new_means (new.Refused n) = refuses n
-
-abbrev pub new_number : NewPlayer → ℕ
-new_number n = (new_means n).0
-
-abbrev pub tick_means : Tick → Meaning ℤ
-tick_means (tick.Sign x) = accepts x
-tick_means (tick.Refused n) = refuses n
-
-abbrev pub tick_number : Tick → ℕ
-tick_number t = (tick_means t).0

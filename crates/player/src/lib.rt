@@ -3,6 +3,8 @@
 
 pub mod clock;
 
+use refusals::Refusal;
+
 // What the sample clock steps: the window's bit 0 goes out next; the count runs modulo 2^32.
 #[derive(Clone, Copy)]
 pub struct Player {
@@ -12,32 +14,16 @@ pub struct Player {
     pub count: u32,
 }
 
-#[derive(Clone, Copy)]
-pub enum NewPlayer {
-    Ready(Player),
-    // The refusal's number.
-    Refused(u32),
-}
-
-// What one clock of a player gives.
-#[derive(Clone, Copy)]
-pub enum Tick {
-    // +1 or -1.
-    Sign(i32),
-    // The refusal's number.
-    Refused(u32),
-}
-
-// The tick, and the player as it is after it.
+// The sign that one clock of a player gives, +1 or -1, and the player as it is after it.
 #[derive(Clone, Copy)]
 pub struct Stepped {
-    pub tick: Tick,
+    pub tick: Result<i32, Refusal>,
     pub player: Player,
 }
 
-// What a block of signs gives: 0 or the refusal's number, and the player as it is after it.
+// Whether a block of signs was given, and the player as it is after it.
 #[derive(Clone, Copy)]
 pub struct Played {
-    pub answer: u32,
+    pub answer: Result<(), Refusal>,
     pub player: Player,
 }

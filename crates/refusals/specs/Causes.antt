@@ -45,6 +45,9 @@ abbrev pub means : {A : Type 0} → Result A ℕ → Meaning A
 means (Ok v) = accepts v
 means (Err n) = refuses n
 
+abbrev pub result_number : {A : Type 0} → Result A ℕ → ℕ
+result_number r = (means r).0
+
 -- ---- an answer of a call that asks for maximal taps
 
 -- its number, and the steps after which the register first returns to all ones, where it is accepted and where 4 refuses it, else 0

@@ -1,12 +1,9 @@
--- `player::clock::fill_signs` meets its contract: after k turns the first k signs are written, and the player is k steps on.
+-- `player::clock::fill_signs` meets its contract: the signs that were passed are written, and the player is as many steps on.
 -- Assumes nothing.
-use Rattle.std.proofs.Common.{◌≡◌, ◌-◌, ◌≤◌, length}
+use Rattle.std.proofs.Common.{◌≡◌}
 use Rattle.sums.proofs.Tables.{Written}
 use Rattle.player.specs.Calls.{after, sign_after}
 use Rattle.player.proofs.clock.fill_signs.Given as goal
 
-abbrev pub invariant-loop-k : goal.invariant-loop-k
-invariant-loop-k l = (l.k ≤ length l.initial.signs) × (l.next ≡ after l.initial.next l.k) × Written l.k (sign_after l.initial.next) l.initial.signs l.signs
-
-abbrev pub decreases-loop-k : goal.decreases-loop-k
-decreases-loop-k l = length l.initial.signs - l.k
+abbrev pub invariant-loop-sign : goal.invariant-loop-sign
+invariant-loop-sign l = (l.next ≡ after l.initial.next l.sign-index) × Written l.sign-index (sign_after l.initial.next) l.initial.sign-items l.sign-items

@@ -2,9 +2,10 @@
 use Rattle.std.proofs.Common.{ℕ, List, length, ℤ, sym}
 use Rattle.sums.specs.Lists.{table}
 use Rattle.sums.proofs.First.{answered_refused}
-use Rattle.player.specs.Calls.{after, sign_after, play_outcome}
+use Rattle.refusals.specs.Causes.{number}
+use Rattle.refusals.proofs.Causes.{never_0}
+use Rattle.player.specs.Calls.{Played, after, sign_after, play_outcome}
 use Rattle.player.specs.declared.Player.{Player}
-use Rattle.player.specs.declared.Played.{Played}
 use Rattle.player.proofs.clock.play.Goals as goal
 
 -- what a refusal hands back, and what a block comes to
@@ -15,15 +16,15 @@ abbrev block : Player → List ℤ → Played × List ℤ
 block p signs =
     (record { answer = 0; player = after p (length signs) }, table (length signs) (sign_after p))
 
-pub returns-then-refusal-ne0 : goal.returns-then-refusal-ne0
+pub returns-in-Err : goal.returns-in-Err
 unfolding play_outcome
-returns-then-refusal-ne0 c =
+returns-in-Err c =
     let a = c.args in
-    rw (← c.check_player-refusal.ensures)
-    (sym (answered_refused (held a.player a.signs.now) (block a.player a.signs.now) c.check_player-refusal.result c.if-refusal-ne0.true))
+    let d = c.in-Err.refusal in
+    rw (← c.in-Err.ensures) (sym (answered_refused (held a.player a.signs.now) (block a.player a.signs.now) (number d) (never_0 d)))
 
-pub returns : goal.returns
+pub returns-in-Ok : goal.returns-in-Ok
 unfolding play_outcome
-returns c =
+returns-in-Ok c =
     let f = c.fill_signs in
-    rw (f.ensures.value, f.ensures.signs_after, ← c.check_player-refusal.ensures, c.if-refusal-ne0.false)
+    rw (f.ensures.value, f.ensures.signs_after, ← c.in-Ok.ensures)
