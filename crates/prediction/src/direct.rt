@@ -16,12 +16,10 @@ fn some_used(room: &[i64], count: usize) -> bool
     requires { count ≤ length room.now }
     ensures { result ≡ false → (i : ℕ) → i < count → at room.now i ≡ pos 0 }
 {
-    let mut i = 0;
-    while i < count {
+    for i in 0..count {
         if room[i] != 0 {
             return true;
         }
-        i += 1;
     }
     false
 }
@@ -32,10 +30,8 @@ fn may_be_loud(h: &[i32]) -> bool
     ensures { result ≡ false → total (length h.now) (λ i. nat_abs (at h.now i)) ≤ 8388607 }
 {
     let mut sum: u64 = 0;
-    let mut i = 0;
-    while i < h.len() {
+    for i in 0..h.len() {
         sum += widened(h, i).unsigned_abs();
-        i += 1;
     }
     sum > HIGHEST_SAMPLE as u64
 }
@@ -45,10 +41,7 @@ fn signed(window: u32, x: i64) -> i64
     requires { nat_abs x ≤ 2 ^ 23 }
     ensures { result ≡ x *ℤ sign (window % 2) }
 {
-    if window % 2 == 0 {
-        return x;
-    }
-    -x
+    if window % 2 == 0 { x } else { -x }
 }
 
 // Whether y(j), of the window at j, lies outside the sample range.
@@ -59,9 +52,7 @@ fn predicted_out(order: u32, taps: u32, h: &[i32], window: u32) -> bool
 {
     let mut y: i64 = 0;
     let mut w = window;
-    let mut i = h.len();
-    while 0 < i {
-        i -= 1;
+    for i in (0..h.len()).rev() {
         w = step(order, taps, w);
         y += signed(w, widened(h, i));
     }
@@ -75,13 +66,11 @@ fn some_predicted_out(order: u32, taps: u32, h: &[i32]) -> bool
     ensures { result ≡ some_out (P order) (predicted order taps h.now) }
 {
     let mut w = full_period(order);
-    let mut j = 0;
-    while j < h.len() {
+    for _j in 0..h.len() {
         if predicted_out(order, taps, h, w) {
             return true;
         }
         w = step(order, taps, w);
-        j += 1;
     }
     false
 }

@@ -24,8 +24,7 @@ pub fn some_sample_out(order: u32, taps: u32, t: &[i64], period: usize) -> bool
     let half = period / 2;
     let mut first = full_period(order);
     let mut second = window_at(order, taps, half as u32);
-    let mut j = 0;
-    while j < half {
+    for _j in 0..half {
         if sample_out_at(t, first) {
             return true;
         }
@@ -34,7 +33,6 @@ pub fn some_sample_out(order: u32, taps: u32, t: &[i64], period: usize) -> bool
         }
         first = step(order, taps, first);
         second = step(order, taps, second);
-        j += 1;
     }
     sample_out_at(t, second)
 }
@@ -56,13 +54,11 @@ pub fn write_samples(order: u32, taps: u32, t: &[i64], out: &mut [i32], period: 
     let half = period / 2;
     let mut first = full_period(order);
     let mut second = window_at(order, taps, half as u32);
-    let mut j = 0;
-    while j < half {
+    for j in 0..half {
         out[j] = sample_at(t, first);
         out[half + j] = sample_at(t, second);
         first = step(order, taps, first);
         second = step(order, taps, second);
-        j += 1;
     }
     out[half + half] = sample_at(t, second);
 }

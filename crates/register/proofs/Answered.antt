@@ -9,7 +9,7 @@ use lib.Dec.{eqb}
 use Rattle.std.specs.Prelude.{Result, Ok, Err}
 use Rattle.sums.specs.Refusals.{first}
 use Rattle.sums.proofs.First.{not_first, refused_first, passed_first}
-use Rattle.refusals.specs.Causes.{Answer, number, answer, answer_period, said}
+use Rattle.refusals.specs.Causes.{Answer, number, steps, answer, answer_period, said}
 use Rattle.refusals.specs.declared.Refusal.{Refusal}
 use Rattle.refusals.specs.declared.Refusal.TheVariants.{NotMaximal}
 use Rattle.refusals.proofs.Causes.{never_0, no_steps}
@@ -52,6 +52,10 @@ module _ (N taps : ℕ) where
 
     pub short_refused : (p : ℕ) → p ≡ period N taps → false ≡ eqb (period N taps) (P N) → said (Err (NotMaximal p)) ≡ answer_of N taps (taps_answer N taps)
     short_refused p h e = saying N taps (Err (NotMaximal p)) (sym (fourth false e)) (h ∙ sym (told-period N taps _ 0 (inr (fourth false e))))
+
+-- a refusal with another number than 4 tells no period
+pub silent : (N taps : ℕ) (d : Refusal) → (number d ≡ 4 → ⊥) → steps d ≡ told N taps (number d) 0
+silent N taps d h = no_steps d h ∙ sym (told_none N taps (number d) 0 (never_0 d) h)
 
 -- ---- what a call knows once the taps check has answered
 

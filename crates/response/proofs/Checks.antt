@@ -1,5 +1,5 @@
 -- The answer so far decides an outcome, whatever is handed back: the first five checks, then 6, 7 and those that a call adds. Assumes nothing.
-use mathlib.Core.Path.{◌≡◌, sym, ◌∙◌}
+use mathlib.Core.Path.{◌≡◌, sym, ap, ◌∙◌}
 use mathlib.Core.Bool.{Bool, true, false, cond}
 use mathlib.Core.List.{List, [], ◌∷◌}
 use borrow.Author.Tests.{eqb-true, eq-eqb, ne_eqb, not-false}
@@ -11,9 +11,12 @@ use Rattle.sums.specs.Lists.{at}
 use Rattle.sums.specs.Refusals.{first, outcome}
 use Rattle.sums.proofs.First.{refused_first, passed_first, refused_early, passed_early, passes, accepts}
 use Rattle.samples.specs.Samples.{length_off, some_out}
-use Rattle.register.specs.Register.{P, Accepted}
-use Rattle.register.specs.Calls.{taps_checks, taps_answer}
-use Rattle.register.proofs.Judged.{accepted_exactly}
+use Rattle.std.specs.Prelude.{Ok}
+use Rattle.refusals.specs.Causes.{Answer, said}
+use Rattle.register.specs.Register.{P, period, Accepted}
+use Rattle.register.specs.Calls.{taps_checks, answer_of, taps_answer}
+use Rattle.register.proofs.HowShort.{period-told}
+use Rattle.register.proofs.Judged.{accepted_exactly, maximal_period}
 use Rattle.response.specs.Calls.{given_checks, sample_checks}
 
 -- ---- 1 to 5, by the taps check's answer
@@ -42,6 +45,21 @@ given-passed N taps y z =
       (accepted_exactly N taps).0 (accepts (taps_checks N taps) (p.0, (p.1.0, (p.1.1.0, (p.1.1.1.0, tt))))),
       eqb-true (length y) (P N) (not-false (eqb (length y) (P N)) p.1.1.1.1.0),
     )
+
+-- what a call knows once these have been passed, with the period p
+pub record Given (N taps : ℕ) (y : List ℤ) (p : ℕ) : Type 0 where
+  pub none : first (given_checks N taps y) ≡ 0
+  pub accepted : Accepted N taps
+  pub long : length y ≡ P N
+  pub full : p ≡ P N
+  pub whole : p ≡ period N taps
+
+pub given : (N taps : ℕ) (y : List ℤ) {p : ℕ} → said (Ok p) ≡ answer_of N taps (first (given_checks N taps y)) → Given N taps y p
+given N taps y e =
+    let z = sym (ap (λ (a : Answer). a.number) e) in
+    let g = given-passed N taps y z in
+    let q = period-told N taps e in
+    record { none = z; accepted = g.0; long = g.1; full = q ∙ (maximal_period N taps g.0.shaped.tapped).1 g.0.maximal; whole = q }
 
 -- ---- 6, 7 and what comes after them, by the answer r so far
 

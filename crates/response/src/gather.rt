@@ -25,13 +25,11 @@ pub fn gather(order: u32, taps: u32, t: &[i64], out: &mut [i64], period: usize)
     let half = period / 2;
     let mut first = 1;
     let mut second = tag_at(order, taps, half as u32);
-    let mut k = half;
-    while 0 < k {
+    for k in (1..=half).rev() {
         first = tag_step(order, taps, first);
         second = tag_step(order, taps, second);
         out[half + k] = reading(t, first);
         out[k] = reading(t, second);
-        k -= 1;
     }
     out[0] = reading(t, tag_step(order, taps, second));
 }

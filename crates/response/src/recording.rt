@@ -1,17 +1,17 @@
 // One recording turned into its response, by the fast route in lent room.
 ghost use Rattle.std.specs.Prelude.{◌≡◌, false, ◌+◌, ◌≤◌, ◌<◌, length};
 ghost use Rattle.sums.specs.Lists.{at, table, put};
+ghost use Rattle.refusals.specs.Causes.{answer, answer_period};
 ghost use Rattle.register.specs.Register.{P, wave, Accepted};
 ghost use Rattle.register.specs.Calls.{told};
 ghost use Rattle.response.specs.Response.{response};
 ghost use Rattle.samples.specs.Samples.{some_out, cleared_wide, cleared_tags};
 ghost use Rattle.response.specs.Calls.{recording_outcome};
 
-use crate::given::given_refusal;
+use crate::given::check_given;
 use crate::respond::finish;
 use crate::spread::spread;
-use register::Answer;
-use register::telling::tell;
+use refusals::Refusal;
 use samples::lengths::room_short;
 use samples::range::some_out;
 
@@ -27,33 +27,7 @@ fn turn(order: u32, taps: u32, y: &[i32], out: &mut [i64], room: &mut [i64], tag
     finish(order, taps, room, out, tags, y.len());
 }
 
-// The checks, and the response where none refuses: 0, or the refusal.
-fn check_and_turn(
-    order: u32,
-    taps: u32,
-    y: &[i32],
-    out: &mut [i64],
-    room: &mut [i64],
-    tags: &mut [u16],
-) -> u32
-    ensures { (result, out.new, room.new, tags.new)
-        ≡ recording_outcome order taps y.now out.old room.old tags.old }
-{
-    let refusal = given_refusal(order, taps, y);
-    if refusal != 0 {
-        return refusal;
-    }
-    if room_short(y.len(), out.len(), room.len(), tags.len()) {
-        return 6;
-    }
-    if some_out(y) {
-        return 7;
-    }
-    turn(order, taps, y, out, room, tags);
-    0
-}
-
-// r(k) at every place, refusing 1 to 7. The room that was used holds zeros after it.
+// r(k) at every place, and the period, refusing 1 to 7. The room that was used holds zeros after it.
 pub fn one_recording(
     order: u32,
     taps: u32,
@@ -61,9 +35,17 @@ pub fn one_recording(
     out: &mut [i64],
     room: &mut [i64],
     tags: &mut [u16],
-) -> Answer
-    ensures { ((result.number, out.new, room.new, tags.new)
-        ≡ recording_outcome order taps y.now out.old room.old tags.old) × (result.period ≡ told order taps result.number 0) }
+) -> Result<u32, Refusal>
+    ensures { ((answer result, out.new, room.new, tags.new)
+        ≡ recording_outcome order taps y.now out.old room.old tags.old) × (answer_period result ≡ told order taps (answer result) 0) }
 {
-    tell(order, taps, check_and_turn(order, taps, y, out, room, tags))
+    let period = check_given(order, taps, y)?;
+    if room_short(y.len(), out.len(), room.len(), tags.len()) {
+        return Err(Refusal::Room);
+    }
+    if some_out(y) {
+        return Err(Refusal::Sample);
+    }
+    turn(order, taps, y, out, room, tags);
+    Ok(period)
 }

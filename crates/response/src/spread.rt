@@ -34,12 +34,10 @@ pub fn spread(order: u32, taps: u32, y: &[i32], room: &mut [i64])
     let half = y.len() / 2;
     let mut first = full_period(order);
     let mut second = window_at(order, taps, half as u32);
-    let mut j = 0;
-    while j < half {
+    for j in 0..half {
         lay_two(room, first, widened(y, j), second, widened(y, half + j));
         first = step(order, taps, first);
         second = step(order, taps, second);
-        j += 1;
     }
     lay_two(room, second, widened(y, half + half), 0, 0);
 }
@@ -52,12 +50,10 @@ pub fn spread_wide(order: u32, taps: u32, y: &[i64], room: &mut [i64], period: u
     let half = period / 2;
     let mut first = full_period(order);
     let mut second = window_at(order, taps, half as u32);
-    let mut j = 0;
-    while j < half {
+    for j in 0..half {
         lay_two(room, first, y[j], second, y[half + j]);
         first = step(order, taps, first);
         second = step(order, taps, second);
-        j += 1;
     }
     lay_two(room, second, y[half + half], 0, 0);
 }
@@ -71,12 +67,10 @@ pub fn spread_back(order: u32, taps: u32, h: &[i32], room: &mut [i64])
     let half = h.len() / 2;
     let mut first = 1;
     let mut second = tag_at(order, taps, half as u32);
-    let mut i = half;
-    while 0 < i {
+    for i in (1..=half).rev() {
         first = tag_step(order, taps, first);
         second = tag_step(order, taps, second);
         lay_two(room, first, widened(h, half + i), second, widened(h, i));
-        i -= 1;
     }
     lay_two(room, tag_step(order, taps, second), widened(h, 0), 0, 0);
 }

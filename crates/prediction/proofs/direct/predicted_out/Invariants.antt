@@ -4,6 +4,3 @@ use Rattle.prediction.proofs.direct.predicted_out.Given as goal
 
 abbrev pub invariant-loop-i : goal.invariant-loop-i
 invariant-loop-i l = Summed l.order l.taps l.h l.window l.y l.w l.i
-
-abbrev pub decreases-loop-i : goal.decreases-loop-i
-decreases-loop-i l = l.i

@@ -32,13 +32,13 @@ overflow_sub-result c =
     let x = c.args.x in
     rw (back (goal.at.overflow_sub-result c).Start, minus x) (minus-fits x (omega (arith, c.requires)))
 
-pub returns : goal.returns
+pub returns-else-window-eq0 : goal.returns-else-window-eq0
 unfolding sign
-returns c =
+returns-else-window-eq0 c =
     let x = c.args.x in
     let one : c.args.window % 2 ≡ 1 = odd c.args.window c.if-window-eq0.false in
     to_z-of_z w64 (pos 0 -ℤ to_z w64 (of_z w64 x)) (overflow_sub-result c)
-    ∙ ap (λ z. pos 0 -ℤ z) (back (goal.at.returns c).Start) ∙ minus x
+    ∙ ap (λ z. pos 0 -ℤ z) (back (goal.at.returns-else-window-eq0 c).Start) ∙ minus x
     ∙ rw one (sym (*ℤ_neg x (pos 1) ∙ ap neg_ℤ (mul-one x)))
   where
     odd : (w : ℕ) → (w % 2 ≡ 0 → ⊥) → w % 2 ≡ 1

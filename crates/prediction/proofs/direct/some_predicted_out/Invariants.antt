@@ -1,7 +1,7 @@
 -- `prediction::direct::some_predicted_out` meets its contract: none of the samples passed is out of the range. Assumes nothing.
 use mathlib.Core.Path.{◌≡◌}
 use mathlib.Core.Bool.{false}
-use Prim.Native.Nat.{ℕ, ◌-◌, ◌≤◌, ◌<◌}
+use Prim.Native.Nat.{ℕ, ◌≤◌, ◌<◌}
 use lib.ListN.{length}
 use Rattle.register.specs.Register.{window}
 use Rattle.samples.specs.Samples.{sample_out}
@@ -9,7 +9,4 @@ use Rattle.prediction.specs.Calls.{predicted}
 use Rattle.prediction.proofs.direct.some_predicted_out.Given as goal
 
 abbrev pub invariant-loop-j : goal.invariant-loop-j
-invariant-loop-j l = (l.j ≤ length l.h) × (l.w ≡ window l.order l.taps l.j) × ((i : ℕ) → i < l.j → sample_out (predicted l.order l.taps l.h i) ≡ false)
-
-abbrev pub decreases-loop-j : goal.decreases-loop-j
-decreases-loop-j l = length l.h - l.j
+invariant-loop-j l = (l._j ≤ length l.h) × (l.w ≡ window l.order l.taps l._j) × ((i : ℕ) → i < l._j → sample_out (predicted l.order l.taps l.h i) ≡ false)

@@ -4,6 +4,7 @@ use mathlib.Core.List.{List}
 use Prim.Native.Nat.{◌+◌}
 use native.Mathlib.Omega.{arith}
 use lib.IntN.{ℤ}
+use Rattle.refusals.specs.Causes.{answer}
 use Rattle.register.specs.Register.{P}
 use Rattle.samples.specs.Samples.{cleared_wide}
 use Rattle.samples.proofs.Rooms.{cleared_zeros}
@@ -14,7 +15,7 @@ pub returns : goal.returns
 returns c =
     let a = c.args in
     let N = a.order in
-    let cleared : c.fill_front.new.v ≡ cleared_wide (P N + 1) a.room.now = (rw c.requires.accepted.1 at c.fill_front.ensures) ∙ c.predict_in-answer.ensures.1 in
-    ap (λ (l : List ℤ). (c.predict_in-answer.result, c.predict_in-answer.new.out, l)) cleared
-    ∙ in_room N a.taps a.h.now a.out.now c.predict_in-answer.ensures.0 a.room.now
+    let cleared : c.fill_front.new.v ≡ cleared_wide (P N + 1) a.room.now = (rw c.requires.accepted.1 at c.fill_front.ensures) ∙ c.predict_in-predicted.ensures.1 in
+    ap (λ (l : List ℤ). (answer c.predict_in-predicted.result, c.predict_in-predicted.new.out, l)) cleared
+    ∙ in_room N a.taps a.h.now a.out.now c.predict_in-predicted.ensures.0 a.room.now
     (λ o. cleared_zeros (P N + 1) a.room.now (omega (arith, c.requires.accepted.3)) (λ i l. c.known_loud.ensures.zeros c.if-known_loud.false o i (omega arith)))

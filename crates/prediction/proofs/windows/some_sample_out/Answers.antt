@@ -25,10 +25,10 @@ inside : (c : At-loop-j) → let t = c.args.t.now in (c.loop-j.first < length t)
 inside c = omega (arith, windows_lt c.loop-j.invariant.0, c.requires.1, c.requires.2)
 
 -- what a test says of its place
-near : (c : After-sample_out_at) → c.sample_out_at.result ≡ tests c.before.before.before.before.before c.loop-j.j
+near : (c : After-sample_out_at) → c.sample_out_at.result ≡ tests c.before.before.before.before.before c.loop-j._j
 near c = c.sample_out_at.ensures ∙ ap (λ w. sample_out (at c.args.t.now w)) c.loop-j.invariant.0.near
 
-far : (c : After-sample_out_at-in-loop-j) → c.sample_out_at-in-loop-j.result ≡ tests c.before.before.before.before.before.before.before (c.args.period / 2 + c.loop-j.j)
+far : (c : After-sample_out_at-in-loop-j) → c.sample_out_at-in-loop-j.result ≡ tests c.before.before.before.before.before.before.before (c.args.period / 2 + c.loop-j._j)
 far c = c.sample_out_at-in-loop-j.ensures ∙ ap (λ w. sample_out (at c.args.t.now w)) c.loop-j.invariant.0.far
 
 -- the last sample decides
@@ -44,14 +44,14 @@ sample_out_at-requires c = (inside (goal.at.sample_out_at-requires c).At-loop-j)
 
 pub returns-then-sample_out_at : goal.returns-then-sample_out_at
 returns-then-sample_out_at c =
-    sym (some_at (tests (goal.at.returns-then-sample_out_at c).Start) c.args.period c.loop-j.j (omega (arith, whole (goal.at.returns-then-sample_out_at c).Start)) (sym (near (goal.at.returns-then-sample_out_at c).After-sample_out_at) ∙ c.if-sample_out_at.true))
+    sym (some_at (tests (goal.at.returns-then-sample_out_at c).Start) c.args.period c.loop-j._j (omega (arith, whole (goal.at.returns-then-sample_out_at c).Start)) (sym (near (goal.at.returns-then-sample_out_at c).After-sample_out_at) ∙ c.if-sample_out_at.true))
 
 pub sample_out_at-requires-in-loop-j : goal.sample_out_at-requires-in-loop-j
 sample_out_at-requires-in-loop-j c = (inside (goal.at.sample_out_at-requires-in-loop-j c).At-loop-j).1
 
 pub returns-then-sample_out_at-2 : goal.returns-then-sample_out_at-2
 returns-then-sample_out_at-2 c =
-    sym (some_at (tests (goal.at.returns-then-sample_out_at-2 c).Start) c.args.period (c.args.period / 2 + c.loop-j.j) (omega (arith, whole (goal.at.returns-then-sample_out_at-2 c).Start)) (sym (far (goal.at.returns-then-sample_out_at-2 c).After-sample_out_at-in-loop-j) ∙ c.if-sample_out_at-2.true))
+    sym (some_at (tests (goal.at.returns-then-sample_out_at-2 c).Start) c.args.period (c.args.period / 2 + c.loop-j._j) (omega (arith, whole (goal.at.returns-then-sample_out_at-2 c).Start)) (sym (far (goal.at.returns-then-sample_out_at-2 c).After-sample_out_at-in-loop-j) ∙ c.if-sample_out_at-2.true))
 
 pub loop-j-preserved : goal.loop-j-preserved
 loop-j-preserved c = (
@@ -66,7 +66,7 @@ pub returns : goal.returns
 returns c =
     let half = c.args.period / 2 in
     let w = c.loop-j.invariant.0 in
-    let e : c.loop-j.j ≡ half = omega (arith, w.to) in
+    let e : c.loop-j._j ≡ half = omega (arith, w.to) in
     decides (tests (goal.at.returns c).Start) c.args.period half (whole (goal.at.returns c).Start) (rw e at c.loop-j.invariant.1) _
     (c.sample_out_at-2.ensures ∙ ap (λ x. sample_out (at c.args.t.now x)) (rw e at w.far))
 

@@ -1,5 +1,4 @@
 -- `prediction::windows::write_samples` meets its contract: after j turns the first j samples of both halves are written. Assumes nothing.
-use Prim.Native.Nat.{◌-◌}
 use lib.IntN.{pos}
 use Rattle.sums.specs.Lists.{at}
 use Rattle.sums.proofs.Placed.{Placed}
@@ -9,6 +8,3 @@ use Rattle.prediction.proofs.windows.write_samples.Given as goal
 
 abbrev pub invariant-loop-j : goal.invariant-loop-j
 invariant-loop-j l = Windows l.order l.taps l.half l.j l.first l.second × Placed (pos 0) l.period (λ i. i) (λ i. at l.t (window_of l.order l.taps i)) (Forth l.half l.j) l.initial.out l.out
-
-abbrev pub decreases-loop-j : goal.decreases-loop-j
-decreases-loop-j l = l.half - l.j

@@ -1,11 +1,7 @@
 -- `response::spread::spread` meets its contract: after j turns the first j samples of both halves are laid out. Assumes nothing.
-use Prim.Native.Nat.{◌-◌}
 use Rattle.sums.specs.Lists.{at}
 use Rattle.response.proofs.Laying.{Walked}
 use Rattle.response.proofs.spread.spread.Given as goal
 
 abbrev pub invariant-loop-j : goal.invariant-loop-j
 invariant-loop-j l = Walked l.order l.taps l.half (at l.y) l.initial.room l.j l.first l.second l.room
-
-abbrev pub decreases-loop-j : goal.decreases-loop-j
-decreases-loop-j l = l.half - l.j

@@ -10,6 +10,3 @@ use Rattle.response.proofs.spread.spread_back.Given as goal
 
 abbrev pub invariant-loop-i : goal.invariant-loop-i
 invariant-loop-i l = Tags l.order l.taps l.half l.i l.first l.second × Placed (pos 0) (P l.order) (λ j. tag_of l.order l.taps (P l.order - j)) (at l.h) (Back l.half l.i) l.initial.room l.room
-
-abbrev pub decreases-loop-i : goal.decreases-loop-i
-decreases-loop-i l = l.i

@@ -1,6 +1,6 @@
 -- `response::spread::spread_wide` meets its contract: after j turns the first j numbers of both halves are laid out. Assumes nothing.
 use mathlib.Core.Path.{◌≡◌}
-use Prim.Native.Nat.{ℕ, ◌-◌, ◌≤◌, ◌<◌}
+use Prim.Native.Nat.{ℕ, ◌≤◌, ◌<◌}
 use native.Mathlib.Omega.{arith}
 use Rattle.sums.specs.Lists.{at}
 use Rattle.register.specs.Register.{P, Accepted}
@@ -13,6 +13,3 @@ room p = omega (arith, p.1, p.3)
 
 abbrev pub invariant-loop-j : goal.invariant-loop-j
 invariant-loop-j l = Walked l.order l.taps l.half (at l.y) l.initial.room l.j l.first l.second l.room
-
-abbrev pub decreases-loop-j : goal.decreases-loop-j
-decreases-loop-j l = l.half - l.j

@@ -1,0 +1,17 @@
+-- `prediction::alone::predict_alone` meets its contract: either room has a place for each number of the orders that it serves. Assumes nothing.
+use native.Mathlib.Omega.{arith}
+use lib.Pow.{pow_mono}
+use Prim.Native.Nat.{◌≤◌, ◌<◌}
+use Rattle.register.specs.Register.{P}
+use Rattle.prediction.proofs.alone.+predict_alone.Goals as goal
+
+pub predict_within-requires-clause-room : goal.predict_within-requires-clause-room
+predict_within-requires-clause-room t c =
+    let to : c.args.order ≤ 12 = omega arith in
+    let room : P c.args.order < 4096 = omega (arith, pow_mono to) in
+    let small : 4096 ≤ 65536 = omega arith in (room, small)
+
+pub predict_within-requires-2-clause-room : goal.predict_within-requires-2-clause-room
+predict_within-requires-2-clause-room t c =
+    let room : P c.args.order < 65536 = omega (arith, pow_mono c.requires.accepted.0.shaped.most) in
+    let small : 65536 ≤ 65536 = omega arith in (room, small)
