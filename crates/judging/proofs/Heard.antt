@@ -1,14 +1,15 @@
 -- What is heard of a night: a refusal of its checks, or that none refuses and what is found; and what they have shown where none does. Assumes nothing.
-use mathlib.Core.Path.{◌≡◌, refl, sym, ap, subst}
-use mathlib.Core.Bool.{Bool, true, false}
+use mathlib.Core.Path.{◌≡◌, refl}
+use mathlib.Core.Bool.{false}
 use mathlib.Core.List.{List}
 use Prim.Native.Nat.{ℕ, zero, suc, ◌+◌, ◌*◌, ◌≤◌, ◌<◌}
 use native.Mathlib.Nat.{add-mul}
 use native.Mathlib.Omega.{arith}
 use borrow.Author.Tests.{ltb-false, eqb-true, not-false}
-use lib.Dec.{T, ltb}
+use lib.Dec.{ltb}
 use lib.IntN.{ℤ, nat_abs}
 use lib.ListN.{length, length-drop}
+use Rattle.std.specs.Prelude.{Ok, Err}
 use Rattle.sums.specs.Lists.{at}
 use Rattle.sums.specs.Refusals.{first, answered}
 use Rattle.sums.proofs.First.{Passed, or-false}
@@ -20,41 +21,25 @@ use Rattle.nights.specs.Nights.{lead, periods_of, night_length, settled}
 use Rattle.nights.specs.declared.Night.{Night}
 use Rattle.nights.proofs.Terms.{settled_long, settled_at}
 use Rattle.finding.specs.declared.Finding.{Finding}
-use Rattle.finding.specs.declared.Finding.TheVariants as found
 use Rattle.judging.specs.Judging.{night_checks, found_in, heard_as}
-use Rattle.judging.specs.declared.Hearing.{Hearing}
-use Rattle.judging.specs.declared.Hearing.TheVariants as hearing
 
 -- ---- by cases
 
 -- a refusal that is heard is that of the first check that holds; where something is found none does, and it is what the samples are
 module _ (N : ℕ) (night : Night) (y : List ℤ) where
-  abbrev is_found : Hearing → Bool
-  is_found (hearing.Refused n) = false
-  is_found (hearing.Found f) = true
-
-  -- what is found, and any finding of a refusal
-  abbrev finding_in : Hearing → Finding
-  finding_in (hearing.Refused n) = found.Kept
-  finding_in (hearing.Found f) = f
-
-  abbrev number_in : Hearing → ℕ
-  number_in (hearing.Refused n) = n
-  number_in (hearing.Found f) = 0
-
-  pub refused_heard : (n : ℕ) → heard_as N night y ≡ hearing.Refused n → (first (night_checks N night y) ≡ n) × (n ≡ 0 → ⊥)
+  pub refused_heard : (n : ℕ) → heard_as N night y ≡ Err n → (first (night_checks N night y) ≡ n) × (n ≡ 0 → ⊥)
   refused_heard n = go (first (night_checks N night y))
     where
-      go : (k : ℕ) → answered k hearing.Refused (hearing.Found (found_in N night y)) ≡ hearing.Refused n → (k ≡ n) × (n ≡ 0 → ⊥)
-      go zero e = absurd (subst T (ap is_found e) tt)
-      go (suc k) e = let q = ap number_in e in (q, λ z. omega (arith, q, z))
+      go : (k : ℕ) → answered k Err (Ok (found_in N night y)) ≡ Err n → (k ≡ n) × (n ≡ 0 → ⊥)
+      go zero e = absurd (cc)
+      go (suc k) e = let q : suc k ≡ n = cc in (q, λ z. omega (arith, q, z))
 
-  pub found_heard : (f : Finding) → heard_as N night y ≡ hearing.Found f → (first (night_checks N night y) ≡ 0) × (f ≡ found_in N night y)
+  pub found_heard : (f : Finding) → heard_as N night y ≡ Ok f → (first (night_checks N night y) ≡ 0) × (f ≡ found_in N night y)
   found_heard f = go (first (night_checks N night y))
     where
-      go : (k : ℕ) → answered k hearing.Refused (hearing.Found (found_in N night y)) ≡ hearing.Found f → (k ≡ 0) × (f ≡ found_in N night y)
-      go zero e = (refl, sym (ap finding_in e))
-      go (suc k) e = absurd (subst T (sym (ap is_found e)) tt)
+      go : (k : ℕ) → answered k Err (Ok (found_in N night y)) ≡ Ok f → (k ≡ 0) × (f ≡ found_in N night y)
+      go zero e = (refl, cc)
+      go (suc k) e = absurd (cc)
 
 -- ---- where none refuses
 

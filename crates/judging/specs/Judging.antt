@@ -1,6 +1,6 @@
 -- Document 02, request 5: judging reads the recording and writes nothing. Its verdict says kept without a slot, overloaded with its place, dead, or
 -- refused. Assumes nothing.
-use Rattle.std.specs.Prelude.{List, [], ◌∷◌, ◌++◌, Bool, ◌&&◌, ℕ, eqb, ℤ, length}
+use Rattle.std.specs.Prelude.{List, [], ◌∷◌, ◌++◌, Bool, ◌&&◌, ℕ, eqb, ℤ, length, Result, Ok, Err}
 use Rattle.sums.specs.Lists.{at}
 use Rattle.sums.specs.Refusals.{outcome}
 use Rattle.register.specs.Register.{P}
@@ -11,8 +11,6 @@ use Rattle.finding.specs.declared.Finding.{Finding}
 use Rattle.finding.specs.declared.Finding.TheVariants as found
 use Rattle.nights.specs.Nights.{periods_out, night_length, settled}
 use Rattle.nights.specs.declared.Night.{Night}
-use Rattle.judging.specs.declared.Hearing.{Hearing}
-use Rattle.judging.specs.declared.Hearing.TheVariants as hearing
 use Rattle.judging.specs.declared.Judged.{Judged}
 use Rattle.judging.specs.declared.Judged.TheVariants as judged
 use Rattle.judging.specs.declared.Judgement.{Judgement}
@@ -32,8 +30,8 @@ abbrev pub found_in : ℕ → Night → List ℤ → Finding
 found_in N night y = finding (settled (P N) night y)
 
 -- the refusal of these, or that
-abbrev pub heard_as : ℕ → Night → List ℤ → Hearing
-heard_as N night y = outcome (night_checks N night y) hearing.Refused (hearing.Found (found_in N night y))
+abbrev pub heard_as : ℕ → Night → List ℤ → Result Finding ℕ
+heard_as N night y = outcome (night_checks N night y) Err (Ok (found_in N night y))
 
 -- ---- judge: 1, 2, 3, 4, 18, 5, 7; the verdict, and the period as every call tells it that can refuse with 4
 

@@ -1,24 +1,22 @@
 // The answer of judge.
 ghost use Rattle.std.specs.Prelude.{◌≡◌};
-ghost use Rattle.register.specs.Calls.{told, Reached};
+ghost use Rattle.refusals.specs.Causes.{number, steps};
 ghost use Rattle.judging.specs.Judging.{judge_outcome};
+ghost use Rattle.judging.specs.declared.Judged.TheVariants.{Refused};
 
 use crate::listening::hear;
 use crate::verdicts::judged_of;
-use crate::{Hearing, Judged, Judgement};
+use crate::{Judged, Judgement};
 use nights::Night;
-use register::taps::taps_refusal;
-use register::telling::tell;
+use refusals::Refusal;
+use register::taps::check_taps;
 
-// The verdict with the period that goes with its number.
-fn with_period(order: u32, taps: u32, verdict: Judged, number: u32) -> Judgement
-    requires { Reached order taps number }
-    ensures { result ≡ record { verdict = verdict; period = told order taps number 0 } }
+fn refused(refusal: Refusal) -> Judgement
+    ensures { result ≡ record { verdict = Refused (number refusal); period = steps refusal } }
 {
-    let answer = tell(order, taps, number);
     Judgement {
-        verdict,
-        period: answer.period,
+        verdict: Judged::Refused(refusal.number()),
+        period: refusal.steps(),
     }
 }
 
@@ -26,12 +24,14 @@ fn with_period(order: u32, taps: u32, verdict: Judged, number: u32) -> Judgement
 pub fn judge(order: u32, taps: u32, night: Night, y: &[i32]) -> Judgement
     ensures { result ≡ judge_outcome order taps night y.now }
 {
-    let refusal = taps_refusal(order, taps);
-    if refusal != 0 {
-        return with_period(order, taps, Judged::Refused(refusal), refusal);
-    }
-    match hear(order, night, y) {
-        Hearing::Refused(n) => with_period(order, taps, Judged::Refused(n), n),
-        Hearing::Found(found) => with_period(order, taps, judged_of(found), 0),
+    match check_taps(order, taps) {
+        Err(refusal) => refused(refusal),
+        Ok(period) => match hear(order, night, y) {
+            Err(refusal) => refused(refusal),
+            Ok(found) => Judgement {
+                verdict: judged_of(found),
+                period,
+            },
+        },
     }
 }

@@ -5,18 +5,7 @@ pub mod judging;
 pub mod listening;
 pub mod verdicts;
 
-use finding::Finding;
-
-// What its samples alone say of a night.
-#[derive(Clone, Copy)]
-pub enum Hearing {
-    // The refusal's number.
-    Refused(u32),
-    // What those after the run-in are.
-    Found(Finding),
-}
-
-#[derive(Clone, Copy)]
+#[derive(Clone, Copy, Debug, PartialEq, Eq)]
 pub enum Judged {
     // Nothing is against it. Which slot it takes is known only when it is filed.
     Kept,
@@ -24,7 +13,7 @@ pub enum Judged {
     Overloaded(usize),
     // Its largest sample minus its smallest is 7 or less.
     Dead,
-    // The refusal's number.
+    // The refusal's number, since a caller in C may hand in any.
     Refused(u32),
 }
 

@@ -1,34 +1,36 @@
 // What is asked of a night's samples, whoever asks: the checks, and what they are found to be.
 ghost use Rattle.std.specs.Prelude.{◌≡◌, ◌≤◌};
+ghost use Rattle.refusals.specs.Causes.{numbered};
 ghost use Rattle.judging.specs.Judging.{heard_as};
 
-use crate::Hearing;
+use finding::Finding;
 use finding::looking::{look, look_clear};
 use finding::rails::some_loud;
 use nights::Night;
 use nights::shape::{night_length, periods_out, run_in};
+use refusals::Refusal;
 use register::shift::full_period;
 use samples::range::some_out;
 
-// The first of 18, 5, 7 that refuses a night, and where none does what its samples after the run-in are. One pass over all of them is enough where none is at a rail
+// What a night's samples after the run-in are, refusing 18, 5, 7. One pass over all of them is enough where none is at a rail
 // or beyond, which is the most common night.
-pub fn hear(order: u32, night: Night, y: &[i32]) -> Hearing
+pub fn hear(order: u32, night: Night, y: &[i32]) -> Result<Finding, Refusal>
     requires { order ≤ 16 }
-    ensures { result ≡ heard_as order night y.now }
+    ensures { numbered result ≡ heard_as order night y.now }
 {
     if periods_out(night) {
-        return Hearing::Refused(18);
+        return Err(Refusal::Periods);
     }
     let period = full_period(order) as usize;
     if y.len() != night_length(night, period) {
-        return Hearing::Refused(5);
+        return Err(Refusal::Length);
     }
     let from = run_in(night, period);
     if some_loud(y) {
         if some_out(y) {
-            return Hearing::Refused(7);
+            return Err(Refusal::Sample);
         }
-        return Hearing::Found(look(&y[from..]));
+        return Ok(look(&y[from..]));
     }
-    Hearing::Found(look_clear(&y[from..]))
+    Ok(look_clear(&y[from..]))
 }

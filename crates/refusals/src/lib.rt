@@ -2,7 +2,7 @@
 #![tactic(auto)]
 
 ghost use Rattle.std.specs.Prelude.{◌≡◌};
-ghost use Rattle.refusals.specs.Causes.{number as number_of};
+ghost use Rattle.refusals.specs.Causes.{number as number_of, steps as steps_of};
 
 #[derive(Clone, Copy, Debug, PartialEq, Eq)]
 pub enum Refusal {
@@ -76,6 +76,16 @@ impl Refusal {
             Refusal::Verdict => 23,
             Refusal::Edition => 24,
             Refusal::NotOffered => 25,
+        }
+    }
+
+    // The steps that a register which is not maximal is told with, and 0 of any other cause.
+    pub fn steps(self) -> u32
+        ensures { result ≡ steps_of self }
+    {
+        match self {
+            Refusal::NotMaximal(steps) => steps,
+            _ => 0,
         }
     }
 }

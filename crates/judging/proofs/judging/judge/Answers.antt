@@ -3,82 +3,74 @@ use mathlib.Core.Path.{◌≡◌, refl, sym, ap, ◌∙◌}
 use mathlib.Core.List.{List}
 use Prim.Native.Nat.{ℕ, zero, suc}
 use lib.IntN.{ℤ}
+use Rattle.std.specs.Prelude.{Result, Ok, Err}
 use Rattle.sums.specs.Refusals.{first, answered}
-use Rattle.sums.proofs.First.{refused_early, passed_early}
-use Rattle.register.specs.Register.{Accepted}
-use Rattle.register.specs.Calls.{told, Reached, taps_checks, taps_answer}
-use Rattle.register.proofs.HowShort.{reached}
-use Rattle.register.proofs.Judged.{accepted_exactly}
+use Rattle.sums.proofs.First.{not_first, refused_early, passed_early}
+use Rattle.refusals.specs.Causes.{number, steps}
+use Rattle.refusals.specs.declared.Refusal.{Refusal}
+use Rattle.refusals.proofs.Causes.{never_0}
+use Rattle.register.specs.Register.{period}
+use Rattle.register.specs.Calls.{told, taps_checks, taps_answer}
+use Rattle.register.proofs.HowShort.{period-told}
+use Rattle.register.proofs.Answered.{took, refused_by, silent}
+use Rattle.finding.specs.declared.Finding.{Finding}
 use Rattle.nights.specs.declared.Night.{Night}
 use Rattle.judging.specs.Judging.{night_checks, found_in, heard_as, judged_of, judge_outcome}
-use Rattle.judging.specs.declared.Hearing.{Hearing}
-use Rattle.judging.specs.declared.Hearing.TheVariants as hearing
 use Rattle.judging.specs.declared.Judged.{Judged}
 use Rattle.judging.specs.declared.Judged.TheVariants as judged
 use Rattle.judging.specs.declared.Judgement.{Judgement}
+use Rattle.judging.proofs.Heard.{refused_heard}
 use Rattle.judging.proofs.judging.judge.Goals as goal
-use Rattle.judging.proofs.judging.judge.Goals.{Else-refusal-ne0}
+
+abbrev of : Judged → ℕ → Judgement
+of v p = record { verdict = v; period = p }
 
 module _ (N taps : ℕ) (night : Night) (y : List ℤ) where
-  abbrev of : Judged → ℕ → Judgement
-  of v n = record { verdict = v; period = told N taps n 0 }
-
   -- the judgement of what is heard
-  abbrev by-hearing : Hearing → Judgement
-  by-hearing (hearing.Refused n) = of (judged.Refused n) n
-  by-hearing (hearing.Found f) = of (judged_of f) 0
+  abbrev by-hearing : Result Finding ℕ → Judgement
+  by-hearing (Err n) = of (judged.Refused n) (told N taps n 0)
+  by-hearing (Ok f) = of (judged_of f) (told N taps 0 0)
 
-  refused : (n : ℕ) → n ≡ taps_answer N taps → (n ≡ 0 → ⊥) → {j : Judgement} → j ≡ of (judged.Refused n) n → j ≡ judge_outcome N taps night y
+  refused : (d : Refusal) → number d ≡ taps_answer N taps → steps d ≡ told N taps (number d) 0
+      → of (judged.Refused (number d)) (steps d) ≡ judge_outcome N taps night y
   unfolding judge_outcome taps_answer
-  refused n e h q = q ∙ sym (refused_early _ _ (taps_checks N taps) (night_checks N night y) n e h)
+  refused d e q = ap (of (judged.Refused (number d))) q ∙ sym (refused_early _ _ (taps_checks N taps) (night_checks N night y) (number d) e (never_0 d))
 
-  passed : (n : ℕ) → n ≡ taps_answer N taps → n ≡ 0 → by-hearing (heard_as N night y) ≡ judge_outcome N taps night y
-  unfolding judge_outcome taps_answer
-  passed n e z = go (first (night_checks N night y)) ∙ sym (passed_early _ _ (taps_checks N taps) (night_checks N night y) n tt e z)
-    where
-      go : (k : ℕ) → by-hearing (answered k hearing.Refused (hearing.Found (found_in N night y))) ≡ answered k (λ k. of (judged.Refused k) k) (of (judged_of (found_in N night y)) 0)
-      go zero = refl
-      go (suc k) = refl
+  module _ (z : taps_answer N taps ≡ 0) where
+    passed : by-hearing (heard_as N night y) ≡ judge_outcome N taps night y
+    unfolding judge_outcome taps_answer
+    passed = go (first (night_checks N night y)) ∙ sym (passed_early _ _ (taps_checks N taps) (night_checks N night y) 0 tt (sym z) refl)
+      where
+        go : (k : ℕ) → by-hearing (answered k Err (Ok (found_in N night y))) ≡ answered k (λ k. of (judged.Refused k) (told N taps k 0)) (of (judged_of (found_in N night y)) (told N taps 0 0))
+        go zero = refl
+        go (suc k) = refl
 
--- of a register that is accepted every number tells
-known : (N taps : ℕ) → Accepted N taps → (n : ℕ) → Reached N taps n
-known N taps a n = record { accepted = λ _. a; shaped = λ _. a.shaped }
+    heard_refused : (d : Refusal) → Err (number d) ≡ heard_as N night y → of (judged.Refused (number d)) (steps d) ≡ judge_outcome N taps night y
+    heard_refused d e =
+        let n = (refused_heard N night y (number d) (sym e)).0 in
+        ap (of (judged.Refused (number d))) (silent N taps d (λ f. not_first 4 (night_checks N night y) tt (n ∙ f))) ∙ ap by-hearing e ∙ passed
 
--- past the taps
-accepted : (c : Else-refusal-ne0) → let a = c.args in Accepted a.order a.taps
-accepted c = let a = c.args in (accepted_exactly a.order a.taps).0 (sym c.taps_refusal-refusal.ensures ∙ c.if-refusal-ne0.false)
+    heard_found : (f : Finding) (p : ℕ) → Ok f ≡ heard_as N night y → p ≡ period N taps → of (judged_of f) p ≡ judge_outcome N taps night y
+    heard_found f p e q = ap (of (judged_of f)) q ∙ ap by-hearing e ∙ passed
 
--- what is heard decides
-heard : (c : Else-refusal-ne0) → let a = c.args in (h : Hearing) → h ≡ heard_as a.order a.night a.y.now
-    → by-hearing a.order a.taps a.night a.y.now h ≡ judge_outcome a.order a.taps a.night a.y.now
-heard c h e =
+pub returns-in-Err : goal.returns-in-Err
+returns-in-Err c =
     let a = c.args in
-    ap (by-hearing a.order a.taps a.night a.y.now) e
-    ∙ passed a.order a.taps a.night a.y.now _ c.taps_refusal-refusal.ensures c.if-refusal-ne0.false
-
-pub with_period-requires : goal.with_period-requires
-unfolding taps_answer
-with_period-requires c =
-    let a = c.args in
-    rw c.taps_refusal-refusal.ensures (reached a.order a.taps (taps_checks a.order a.taps) refl)
-
-pub returns-then-refusal-ne0 : goal.returns-then-refusal-ne0
-returns-then-refusal-ne0 c =
-    let a = c.args in
-    refused a.order a.taps a.night a.y.now _ c.taps_refusal-refusal.ensures c.if-refusal-ne0.true c.with_period.ensures
+    let d = c.in-Err.refusal in
+    c.refused.ensures ∙ refused a.order a.taps a.night a.y.now d (refused_by a.order a.taps d c.in-Err.ensures) (period-told a.order a.taps c.in-Err.ensures)
 
 pub hear-requires : goal.hear-requires
-hear-requires c = (accepted c).shaped.most
+hear-requires c = (took c.args.order c.args.taps c.in-Ok.ensures).accepted.shaped.most
 
-pub with_period-requires-in-Found : goal.with_period-requires-in-Found
-with_period-requires-in-Found c = known _ _ (accepted (goal.at.with_period-requires-in-Found c).Else-refusal-ne0) _
-
-pub returns-in-Refused : goal.returns-in-Refused
-returns-in-Refused c = c.with_period-in-Refused.ensures ∙ heard (goal.at.returns-in-Refused c).Else-refusal-ne0 _ c.in-Refused.ensures
-
-pub returns-in-Found : goal.returns-in-Found
-returns-in-Found c =
+pub returns-in-Err-hear : goal.returns-in-Err-hear
+returns-in-Err-hear c =
     let a = c.args in
-    c.with_period-in-Found.ensures
-    ∙ ap (λ v. of a.order a.taps a.night a.y.now v 0) c.judged_of.ensures
-    ∙ heard (goal.at.returns-in-Found c).Else-refusal-ne0 _ c.in-Found.ensures
+    c.refused-in-Err-hear.ensures
+    ∙ heard_refused a.order a.taps a.night a.y.now (took a.order a.taps c.in-Ok.ensures).passed c.in-Err-hear.refusal c.in-Err-hear.ensures
+
+pub returns-in-Ok-hear : goal.returns-in-Ok-hear
+returns-in-Ok-hear c =
+    let a = c.args in
+    let t = took a.order a.taps c.in-Ok.ensures in
+    ap (λ v. of v c.in-Ok.period) c.judged_of.ensures
+    ∙ heard_found a.order a.taps a.night a.y.now t.passed c.in-Ok-hear.found c.in-Ok.period c.in-Ok-hear.ensures t.whole

@@ -10,6 +10,7 @@ use borrow.Author.Rules.{part_to_end}
 use lib.Dec.{eqb}
 use lib.IntN.{ℤ}
 use lib.ListN.{length, take, drop}
+use Rattle.std.specs.Prelude.{Ok, Err}
 use Rattle.sums.specs.Lists.{at}
 use Rattle.sums.specs.Refusals.{outcome}
 use Rattle.samples.specs.Samples.{some_out}
@@ -19,14 +20,13 @@ use Rattle.finding.proofs.Loud.{clear, ranged, dropped}
 use Rattle.nights.specs.Nights.{lead, periods_of, periods_out, night_length, settled}
 use Rattle.nights.specs.declared.Night.{Night}
 use Rattle.judging.specs.Judging.{heard_as}
-use Rattle.judging.specs.declared.Hearing.TheVariants as hearing
 use Rattle.judging.proofs.listening.hear.Goals as goal
 use Rattle.judging.proofs.listening.hear.Goals.{After-night_length, After-run_in-from, Else-periods_out, Else-some_loud, Else-y-night_length}
 
 -- what is heard, by what the three tests say
 module _ (N : ℕ) (night : Night) (y : List ℤ) where
   by_tests : {a b c : Bool} → periods_out night ≡ a → eqb (length y) (night_length (P N) night) ≡ b → some_out (length y) (at y) ≡ c
-      → outcome ((18, a) ∷ (5, not b) ∷ (7, c) ∷ []) hearing.Refused (hearing.Found (finding (settled (P N) night y))) ≡ heard_as N night y
+      → outcome ((18, a) ∷ (5, not b) ∷ (7, c) ∷ []) Err (Ok (finding (settled (P N) night y))) ≡ heard_as N night y
   by_tests e f g = rw (e, f, g) refl
 
 -- past the first test
@@ -58,7 +58,7 @@ settled_is c =
 
 -- what is heard where the first two tests pass
 heard : (c : After-run_in-from) → let a = c.args in (b : Bool) → some_out (length a.y.now) (at a.y.now) ≡ b
-    → outcome ((7, b) ∷ []) hearing.Refused (hearing.Found (finding (settled (P a.order) a.night a.y.now))) ≡ heard_as a.order a.night a.y.now
+    → outcome ((7, b) ∷ []) Err (Ok (finding (settled (P a.order) a.night a.y.now))) ≡ heard_as a.order a.night a.y.now
 heard c b o =
     let a = c.args in
     by_tests a.order a.night a.y.now (few c.before.before.before.before) (eq-eqb _ _ (long c.before)) o
@@ -74,4 +74,4 @@ look_clear-requires c =
 
 pub returns : goal.returns
 returns c =
-    ap hearing.Found (c.look_clear.ensures ∙ ap finding (settled_is (goal.at.returns c).After-run_in-from)) ∙ heard (goal.at.returns c).After-run_in-from false (ranged c.args.y.now (quiet (goal.at.returns c).Else-some_loud))
+    ap Ok (c.look_clear.ensures ∙ ap finding (settled_is (goal.at.returns c).After-run_in-from)) ∙ heard (goal.at.returns c).After-run_in-from false (ranged c.args.y.now (quiet (goal.at.returns c).Else-some_loud))
