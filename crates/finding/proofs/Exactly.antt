@@ -20,7 +20,7 @@ use Rattle.sums.proofs.Somewhere.{none_of}
 use Rattle.samples.specs.Samples.{lowest, highest, rail, sample_out, some_out, inside}
 use Rattle.samples.proofs.Rails.{rail_exactly, between}
 use Rattle.finding.specs.Finding.{rail_place, dead_spread, still, judged, finding}
-use Rattle.finding.specs.declared.Rail.TheVariants as scan
+use Rattle.std.proofs.Common.{Some, None}
 use Rattle.finding.specs.declared.Finding.{Finding}
 use Rattle.finding.specs.declared.Finding.TheVariants as found
 
@@ -70,11 +70,11 @@ module _ (y : List ℤ) where
   no_rail : (j : ℕ) → j < rail_place y → AtRail (at y j) → ⊥
   no_rail j l r = subst T (sym ((rail_exactly (at y j)).1 r) ∙ rails.before j (omega arith) l) tt
 
-  by_spread : Clear y → (b : Bool) → still y ≡ b → Found y (judged scan.Clear b)
+  by_spread : Clear y → (b : Bool) → still y ≡ b → Found y (judged None b)
   by_spread none true s = (none, (spread_exactly dead_spread (length y) (at y)).0 s)
   by_spread none false s = (none, spread_far dead_spread (length y) (at y) s)
 
-  by_rail : (b : Bool) → ltb (rail_place y) (length y) ≡ b → Found y (judged (cond b (scan.First (rail_place y)) scan.Clear) (still y))
+  by_rail : (b : Bool) → ltb (rail_place y) (length y) ≡ b → Found y (judged (cond b (Some (rail_place y)) None) (still y))
   by_rail true e =
       let l = ltb-true (rail_place y) (length y) e in
       record { within = l; here = (rail_exactly (at y (rail_place y))).0 (rails.here (omega arith)); before = no_rail }

@@ -17,7 +17,7 @@ use Rattle.sums.proofs.Somewhere.{seek-some}
 use Rattle.sums.proofs.Turned.{late_long, late-none, late_reordered}
 use Rattle.samples.specs.Samples.{rail}
 use Rattle.finding.specs.Finding.{rail_place, dead_spread, still, judged, finding}
-use Rattle.finding.specs.declared.Rail.TheVariants as scan
+use Rattle.std.proofs.Common.{Some, None}
 use Rattle.finding.specs.declared.Finding.{Finding}
 use Rattle.finding.specs.declared.Finding.TheVariants as found
 
@@ -42,6 +42,6 @@ module _ (P d m : ℕ) (y : List ℤ) (long : length y ≡ m * P) where
   unfolding finding
   found_late read alike = rw (same-rail, same-still) (go (ltb (rail_place y) (length y)))
     where
-      go : (b : Bool) → read (judged (cond b (scan.First (rail_place (late P d y))) scan.Clear) (still y)) ≡ read (judged (cond b (scan.First (rail_place y)) scan.Clear) (still y))
+      go : (b : Bool) → read (judged (cond b (Some (rail_place (late P d y))) None) (still y)) ≡ read (judged (cond b (Some (rail_place y)) None) (still y))
       go true = alike (rail_place (late P d y)) (rail_place y)
       go false = refl

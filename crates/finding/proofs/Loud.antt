@@ -15,13 +15,13 @@ use Rattle.sums.proofs.Somewhere.{none_of, some-none}
 use Rattle.samples.specs.Samples.{rail, sample_out, some_out, least_of, most_of}
 use Rattle.samples.proofs.Rails.{off_rails, off_out}
 use Rattle.finding.specs.Finding.{rail_place, rail_of, some_loud}
-use Rattle.finding.specs.declared.Rail.TheVariants as scan
+use Rattle.std.proofs.Common.{Some, None}
 
 module _ (y : List ℤ) (h : some_loud y ≡ false) where
   quiet : (j : ℕ) → j < length y → lt_z (at y j) (least_of 1) || lt_z (most_of 1) (at y j) ≡ false
   quiet j l = none_of (λ i. lt_z (at y i) (least_of 1) || lt_z (most_of 1) (at y i)) (length y) h j l
 
-  pub clear : rail_of y ≡ scan.Clear
+  pub clear : rail_of y ≡ None
   clear =
       let e = first_unique (λ j. rail (at y j)) (seek-first (λ j. rail (at y j)) (length y) 0) (record {
         from = omega arith;
@@ -29,7 +29,7 @@ module _ (y : List ℤ) (h : some_loud y ≡ false) where
         before = λ j a l. off_rails (at y j) (quiet j l);
         here = λ l. absurd (omega arith);
       }) in
-      ap (λ b. cond b (scan.First (rail_place y)) scan.Clear) (le-ltb (rail_place y) (length y) (omega (arith, e)))
+      ap (λ b. cond b (Some (rail_place y)) None) (le-ltb (rail_place y) (length y) (omega (arith, e)))
 
   pub ranged : some_out (length y) (at y) ≡ false
   ranged = some-none (λ j. sample_out (at y j)) (length y) (λ j l. off_out (at y j) (quiet j l))

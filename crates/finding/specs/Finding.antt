@@ -1,11 +1,9 @@
 -- Document 01, "The campaign", and document 02, request 2: overloaded, otherwise dead, otherwise kept. Assumes nothing.
-use Rattle.std.specs.Prelude.{List, Bool, true, false, cond, ◌||◌, ℕ, ltb, ℤ, pos, ◌-ℤ◌, length}
+use Rattle.std.specs.Prelude.{List, Bool, true, false, cond, ◌||◌, ℕ, ltb, ℤ, pos, ◌-ℤ◌, length, Option, Some, None}
 use Rattle.std.specs.Int.Signed.{lt_z, le_z}
 use Rattle.sums.specs.Lists.{at, seek, some}
 use Rattle.sums.specs.Largest.{largest, smallest}
 use Rattle.samples.specs.Samples.{rail, least_of, most_of}
-use Rattle.finding.specs.declared.Rail.{Rail}
-use Rattle.finding.specs.declared.Rail.TheVariants as scan
 use Rattle.finding.specs.declared.Finding.{Finding}
 use Rattle.finding.specs.declared.Finding.TheVariants as found
 
@@ -15,8 +13,8 @@ use Rattle.finding.specs.declared.Finding.TheVariants as found
 abbrev pub rail_place : List ℤ → ℕ
 rail_place y = seek (λ j. rail (at y j)) (length y) 0
 
-abbrev pub rail_of : List ℤ → Rail
-rail_of y = cond (ltb (rail_place y) (length y)) (scan.First (rail_place y)) scan.Clear
+abbrev pub rail_of : List ℤ → Option ℕ
+rail_of y = cond (ltb (rail_place y) (length y)) (Some (rail_place y)) None
 
 -- some sample is at a rail or beyond one
 abbrev pub some_loud : List ℤ → Bool
@@ -36,10 +34,10 @@ still y = le_z (spread y) (pos dead_spread)
 -- ---- what it is
 
 -- overloaded comes first, at that place; otherwise dead; otherwise kept
-abbrev pub judged : Rail → Bool → Finding
-judged (scan.First p) quiet = found.Overloaded p
-judged scan.Clear true = found.Dead
-judged scan.Clear false = found.Kept
+abbrev pub judged : Option ℕ → Bool → Finding
+judged (Some p) quiet = found.Overloaded p
+judged None true = found.Dead
+judged None false = found.Kept
 
 unfoldable pub finding : List ℤ → Finding
 finding y = judged (rail_of y) (still y)

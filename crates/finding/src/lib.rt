@@ -17,10 +17,3 @@ pub enum Finding {
     // Neither.
     Kept,
 }
-
-// What the scan for a rail finds: the first place, or none.
-#[derive(Clone, Copy)]
-pub enum Rail {
-    First(usize),
-    Clear,
-}

@@ -2,25 +2,18 @@
 ghost use Rattle.std.specs.Prelude.{◌≡◌};
 ghost use Rattle.finding.specs.Finding.{rail_of, some_loud};
 
-use crate::Rail;
 use samples::range::{at_rail, least_of, most_of, some_beyond};
 
 // The first place at a rail, or none.
-fn first_rail(y: &[i32]) -> Rail
+fn first_rail(y: &[i32]) -> Option<usize>
     ensures { result ≡ rail_of y.now }
 {
-    let n = y.len();
-    let mut j = 0;
-    let found = loop {
-        if j == n {
-            break Rail::Clear;
+    for (j, &x) in y.iter().enumerate() {
+        if at_rail(x) {
+            return Some(j);
         }
-        if at_rail(y[j]) {
-            break Rail::First(j);
-        }
-        j += 1;
-    };
-    found
+    }
+    None
 }
 
 // Whether some sample is at a rail or beyond one.
@@ -31,11 +24,11 @@ pub fn some_loud(y: &[i32]) -> bool
 }
 
 // The first place at a rail, or none, asked of all samples at once first, so that a recording at no rail is not gone through one by one.
-pub fn find_rail(y: &[i32]) -> Rail
+pub fn find_rail(y: &[i32]) -> Option<usize>
     ensures { result ≡ rail_of y.now }
 {
     if some_loud(y) {
         return first_rail(y);
     }
-    Rail::Clear
+    None
 }

@@ -1,5 +1,5 @@
 // How far apart the samples of a recording lie.
-ghost use Rattle.std.specs.Prelude.{◌≡◌, cond, pos, ◌-ℤ◌};
+ghost use Rattle.std.specs.Prelude.{◌≡◌, pos, ◌-ℤ◌};
 ghost use Rattle.std.specs.Int.Signed.{le_z};
 ghost use Rattle.finding.specs.Finding.{dead_spread, still};
 
@@ -7,20 +7,6 @@ use crate::DEAD_SPREAD;
 
 // A sequence has no run longer than its order, 16 at most, so a recording with a signal is known by so many samples.
 const FRONT: usize = 17;
-
-// The new sample where it is at least the old.
-fn higher(old: i32, new: i32) -> i32
-    ensures { result ≡ cond (le_z old new) new old }
-{
-    if old <= new { new } else { old }
-}
-
-// Where it is at most the old.
-fn lower(old: i32, new: i32) -> i32
-    ensures { result ≡ cond (le_z new old) new old }
-{
-    if new <= old { new } else { old }
-}
 
 // Whether the one minus the other is 7 or less.
 fn near(most: i32, least: i32) -> bool
@@ -34,16 +20,14 @@ fn near(most: i32, least: i32) -> bool
 fn all_near(y: &[i32]) -> bool
     ensures { result ≡ still y.now }
 {
-    if y.len() == 0 {
+    if y.is_empty() {
         return true;
     }
-    let mut j = y.len() - 1;
-    let mut most = y[j];
+    let mut most = y[0];
     let mut least = most;
-    while 0 < j {
-        j -= 1;
-        most = higher(most, y[j]);
-        least = lower(least, y[j]);
+    for &x in y {
+        most = most.max(x);
+        least = least.min(x);
     }
     near(most, least)
 }

@@ -7,13 +7,11 @@ pub fn butterflies(v: &mut [i64], half: usize)
     requires { (length v.old ≡ half + half) × PairsFit half v.old }
     ensures { v.new ≡ level half v.old }
 {
-    let mut i = 0;
-    while i < half {
+    for i in 0..half {
         let a = v[i];
         let c = v[i + half];
         v[i] = a + c;
         v[i + half] = a - c;
-        i += 1;
     }
 }
 
@@ -24,8 +22,7 @@ pub fn quads(v: &mut [i64], q: usize)
 {
     let half = q + q;
     let last = half + q;
-    let mut i = 0;
-    while i < q {
+    for i in 0..q {
         let a = v[i];
         let b = v[i + q];
         let c = v[i + half];
@@ -38,6 +35,5 @@ pub fn quads(v: &mut [i64], q: usize)
         v[i + q] = r + t;
         v[i + half] = p - s;
         v[i + last] = r - t;
-        i += 1;
     }
 }

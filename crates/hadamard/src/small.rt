@@ -1,4 +1,5 @@
-// The transforms of 2, 8 and 16 numbers. The compiler writes each out as straight code, with no loop and no call.
+// The transforms of 2, 8 and 16 numbers. The compiler writes each out as straight code, with no loop and no call: one function of the size, as `transform` is,
+// stays a call that calls itself.
 ghost use Rattle.std.specs.Prelude.{◌≡◌, ◌^◌, ◌<◌, length};
 ghost use Rattle.sums.specs.Lists.{table};
 ghost use Rattle.hadamard.specs.Transform.{transformed, loudness};

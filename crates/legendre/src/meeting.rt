@@ -25,7 +25,7 @@ fn next_square(square: usize, i: usize, p: usize) -> usize
     if next < p { next } else { next - p }
 }
 
-// d places on in a period of p, or d back.
+// d places on in a period of p, or d back. Which of the two is a truth value here because it is one in the definition `met`.
 fn away(back: bool, p: usize, d: usize) -> usize
     requires { d ≤ p }
     ensures { result ≡ away_by back p d }
@@ -52,13 +52,11 @@ fn add_met(twice: &[i32], sums: &mut [i32], p: usize, count: usize, back: bool)
 {
     let half = (p + 1) / 2;
     let mut square = 0;
-    let mut i = 0;
-    while i < half {
+    for i in 0..half {
         let from = away(back, p, square);
         let to = from + count;
         add_in(&twice[from..to], sums);
         square = next_square(square, i, p);
-        i += 1;
     }
 }
 

@@ -16,10 +16,8 @@ fn sum_all(h: &[i32]) -> i32
     ensures { result ≡ sum (length h.now) (at h.now) }
 {
     let mut whole = 0;
-    let mut i = 0;
-    while i < h.len() {
-        whole += h[i];
-        i += 1;
+    for &x in h {
+        whole += x;
     }
     whole
 }
@@ -30,10 +28,8 @@ fn hear(sums: &mut [i32], whole: i32, p: usize)
     requires by_index { ((j : ℕ) → j < p → nat_abs (at sums.old j) < 2 ^ 30) × ((j : ℕ) → j < p → nat_abs (whole -ℤ pos 2 *ℤ at sums.old j) < 2 ^ 31) }
     ensures { sums.new ≡ put (table p (λ j. whole -ℤ pos 2 *ℤ at sums.old j)) sums.old }
 {
-    let mut j = 0;
-    while j < p {
+    for j in 0..p {
         sums[j] = whole - 2 * sums[j];
-        j += 1;
     }
 }
 

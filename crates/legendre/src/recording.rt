@@ -12,10 +12,8 @@ fn write_response(sums: &[i32], out: &mut [i64], p: usize)
     requires { (p ≤ length sums.now) × (p ≤ length out.old) }
     ensures { out.new ≡ put (table p (λ k. neg_ℤ (pos 2 *ℤ at sums.now k))) out.old }
 {
-    let mut k = 0;
-    while k < p {
+    for k in 0..p {
         out[k] = 0 - 2 * sums[k] as i64;
-        k += 1;
     }
 }
 

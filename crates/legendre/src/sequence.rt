@@ -6,28 +6,15 @@ ghost use Rattle.legendre.specs.Calls.{sequence_outcome};
 ghost use Rattle.legendre.specs.Working.{Marked};
 
 use crate::periods::offers;
-
-// Ones at the first places.
-fn write_ones(out: &mut [u8], count: usize)
-    requires { count ≤ length out.old }
-    ensures { out.new ≡ put (table count (λ _. 1)) out.old }
-{
-    let mut n = 0;
-    while n < count {
-        out[n] = 1;
-        n += 1;
-    }
-}
+use samples::clearing::fill_front;
 
 // 0 at each square.
 fn mark_squares(out: &mut [u8], p: usize)
     requires { (p ≤ 127) × (p ≤ length out.old) }
     ensures { Marked p p out.old out.new }
 {
-    let mut i = 0;
-    while i < p {
+    for i in 0..p {
         out[i * i % p] = 0;
-        i += 1;
     }
 }
 
@@ -36,7 +23,7 @@ pub fn write_bits(out: &mut [u8], p: usize)
     requires { (0 < p) × (p ≤ 127) × (p ≤ length out.old) }
     ensures { out.new ≡ put (table p (bit p)) out.old }
 {
-    write_ones(out, p);
+    fill_front(out, p, 1);
     mark_squares(out, p);
     out[0] = 1;
 }

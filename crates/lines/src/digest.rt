@@ -1,28 +1,15 @@
 // The digest of a list of numbers.
-ghost use Rattle.std.specs.Prelude.{◌≡◌, true, ◌+◌, ◌*◌, ◌%◌, ◌≤◌, ◌<◌, ◌^◌, pos, negsuc, ◌*ℤ◌, length, get_or};
-ghost use Rattle.std.specs.Int.Signed.{lt_z};
+ghost use Rattle.std.specs.Prelude.{◌≡◌, ℕ, ◌+◌, ◌*◌, ◌%◌, ◌≤◌, ◌<◌, ℤ, pos, ◌*ℤ◌, length, get_or};
 ghost use Rattle.sums.specs.Lists.{at};
-ghost use Rattle.lines.specs.Digest.{residue as residue_of, digest as digest_of};
+ghost use Rattle.lines.specs.Digest.{residue as residue_of, digest as digest_of, Turned};
 
 const MODULUS: u64 = 1000003;
-
-// How far a negative number lies below -1.
-pub fn below_zero(v: i64) -> u64
-    requires { lt_z v (pos 0) ≡ true }
-    ensures { (v ≡ negsuc result) × (result < 2 ^ 63) }
-{
-    (-1 - v) as u64
-}
 
 // A number modulo 1,000,003, from 0 up.
 fn residue(v: i64) -> u64
     ensures { (result ≡ residue_of v) × (result < 1000003) }
 {
-    if v < 0 {
-        MODULUS - 1 - below_zero(v) % MODULUS
-    } else {
-        v as u64 % MODULUS
-    }
+    v.rem_euclid(MODULUS as i64) as u64
 }
 
 // The digest with one number more.
@@ -33,40 +20,23 @@ pub fn fold(d: u64, v: i64) -> u64
     (d * 131 + residue(v)) % MODULUS
 }
 
-pub fn digest_samples(y: &[i32]) -> u64
-    ensures { result ≡ digest_of (length y.now) (at y.now) }
+// The digest of what a list's values are turned into.
+fn digest_by<T: Copy, F: Fn(T) -> i64>(v: &[T], number: F) -> u64
+    requires { (j : ℕ) (x : T) → j < length v.now → F.pre number (get_or v.now j x) }
+    ensures { (f : ℕ → ℤ) → Turned (F.post number) v.now f → result ≡ digest_of (length v.now) f }
 {
     let mut d = 0;
-    let mut j = 0;
-    while j < y.len() {
-        d = fold(d, y[j] as i64);
-        j += 1;
+    for &x in v {
+        d = fold(d, number(x));
     }
     d
 }
 
-pub fn digest_wide(v: &[i64]) -> u64
-    ensures { result ≡ digest_of (length v.now) (at v.now) }
+// The digest of a list of numbers, of any type that goes into 64 bits.
+pub fn digest<T: Copy + Into<i64>>(v: &[T]) -> u64
+    ensures { (f : ℕ → ℤ) → Turned T.converts v.now f → result ≡ digest_of (length v.now) f }
 {
-    let mut d = 0;
-    let mut j = 0;
-    while j < v.len() {
-        d = fold(d, v[j]);
-        j += 1;
-    }
-    d
-}
-
-pub fn digest_tags(v: &[u16]) -> u64
-    ensures { result ≡ digest_of (length v.now) (λ j. pos (get_or v.now j 0)) }
-{
-    let mut d = 0;
-    let mut j = 0;
-    while j < v.len() {
-        d = fold(d, v[j] as i64);
-        j += 1;
-    }
-    d
+    digest_by(v, |x| x.into())
 }
 
 // The digest of the samples times a number.
@@ -74,11 +44,11 @@ pub fn digest_scaled(y: &[i32], scale: usize) -> u64
     requires { scale ≤ 65536 }
     ensures { result ≡ digest_of (length y.now) (λ j. at y.now j *ℤ pos scale) }
 {
-    let mut d = 0;
-    let mut j = 0;
-    while j < y.len() {
-        d = fold(d, y[j] as i64 * scale as i64);
-        j += 1;
-    }
-    d
+    digest_by(
+        y,
+        |x|
+            requires { scale ≤ 65536 }
+            ensures { result ≡ x *ℤ pos scale }
+        { i64::from(x) * scale as i64 },
+    )
 }

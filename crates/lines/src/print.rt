@@ -1,28 +1,15 @@
 // Words and numbers on the standard output that a program hands in, each number after a space. A write that fails is passed over:
 // a line that is cut shows in the comparison of what was printed.
-use crate::digest::below_zero;
-
 pub fn word(rt: &impl Print, text: &[u8]) {
     let _ = rt.write_all(text);
 }
 
-// The digits alone.
-fn digits(rt: &impl Print, n: u64) {
-    let _ = print!(rt; "{n}");
-}
-
 pub fn number(rt: &impl Print, n: u64) {
-    word(rt, b" ");
-    digits(rt, n);
+    let _ = print!(rt; " {n}");
 }
 
 pub fn signed(rt: &impl Print, v: i64) {
-    if v < 0 {
-        word(rt, b" -");
-        digits(rt, below_zero(v) + 1);
-    } else {
-        number(rt, v as u64);
-    }
+    let _ = print!(rt; " {v}");
 }
 
 // The bits of a double as a number, and 0 for one that is no number.

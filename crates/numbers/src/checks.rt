@@ -20,23 +20,30 @@ fn taps_line(rt: &impl Print, order: u32, taps: u32) {
     line_end(rt);
 }
 
+// Orders and taps to be checked: orders out of range, taps that are none, and taps with a short register.
+const CHECKED: [(u32, u32); 16] = [
+    (1, 3),
+    (17, 3),
+    (2, 3),
+    (2, 1),
+    (2, 2),
+    (2, 4),
+    (4, 15),
+    (4, 5),
+    (3, 3),
+    (3, 5),
+    (4, 3),
+    (3, 7),
+    (5, 3),
+    (6, 21),
+    (16, 1),
+    (16, 65535),
+];
+
 pub fn taps_lines(rt: &impl Print) {
-    taps_line(rt, 1, 3);
-    taps_line(rt, 17, 3);
-    taps_line(rt, 2, 3);
-    taps_line(rt, 2, 1);
-    taps_line(rt, 2, 2);
-    taps_line(rt, 2, 4);
-    taps_line(rt, 4, 15);
-    taps_line(rt, 4, 5);
-    taps_line(rt, 3, 3);
-    taps_line(rt, 3, 5);
-    taps_line(rt, 4, 3);
-    taps_line(rt, 3, 7);
-    taps_line(rt, 5, 3);
-    taps_line(rt, 6, 21);
-    taps_line(rt, 16, 1);
-    taps_line(rt, 16, 65535);
+    for (order, taps) in CHECKED {
+        taps_line(rt, order, taps);
+    }
 }
 
 // 1 where the number says accepted.
@@ -56,21 +63,17 @@ fn all_taps_line(rt: &impl Print, order: u32)
     let end = full_period(order) + 2;
     let mut count = 0;
     let mut d = 0;
-    let mut taps = 0;
-    while taps < end {
+    for taps in 0..end {
         let answer = check_taps(order, taps);
         count += accepted(answer.number);
         d = fold(fold(d, answer.number as i64), answer.period as i64);
-        taps += 1;
     }
     three(rt, b"all-taps", order as u64, count, d);
 }
 
 pub fn all_taps_lines(rt: &impl Print) {
-    let mut order = LEAST_ORDER;
-    while order <= MOST_TRIED {
+    for order in LEAST_ORDER..=MOST_TRIED {
         all_taps_line(rt, order);
-        order += 1;
     }
 }
 
@@ -82,9 +85,7 @@ fn default_line(rt: &impl Print, order: u32) {
 }
 
 pub fn default_lines(rt: &impl Print) {
-    let mut order = 0;
-    while order < 19 {
+    for order in 0..19 {
         default_line(rt, order);
-        order += 1;
     }
 }

@@ -4,9 +4,10 @@ ghost use Rattle.std.specs.Prelude.{◌≡◌, ◌≤◌, length};
 use crate::signals::{fill_pattern, fill_turns};
 use defaults::DefaultTaps;
 use defaults::taps::default_taps;
-use lines::digest::{digest_samples, digest_scaled, digest_wide};
+use lines::digest::{digest, digest_scaled};
 use lines::print::{line_end, number, three, word};
 use register::shift::full_period;
+use register::{LEAST_ORDER, MOST_ORDER};
 
 fn predicted_line(rt: &impl Print, order: u32, taps: u32, h: &[i32], y: &mut [i32]) {
     let answer = prediction::predict(order, taps, h, y);
@@ -15,7 +16,7 @@ fn predicted_line(rt: &impl Print, order: u32, taps: u32, h: &[i32], y: &mut [i3
         b"predict",
         order as u64,
         answer.number as u64,
-        digest_samples(y),
+        digest(y),
     );
 }
 
@@ -34,7 +35,7 @@ fn response_line(
         b"response",
         order as u64,
         answer.number as u64,
-        digest_wide(out),
+        digest(out),
     );
 }
 
@@ -112,10 +113,8 @@ fn all_orders(
     requires { (length h.old ≡ 65535) × (length y.old ≡ 65535) × (length out.old ≡ 65535)
         × (length room.old ≡ 65536) × (length tags.old ≡ 65535) }
 {
-    let mut order = 2;
-    while order < 17 {
+    for order in LEAST_ORDER..=MOST_ORDER {
         lines_within(rt, order, h, y, out, room, tags);
-        order += 1;
     }
 }
 
@@ -130,7 +129,7 @@ fn loud_line(
     response::one_recording(16, taps_of(16), y, out, room, tags);
     word(rt, b"loud ");
     word(rt, name);
-    number(rt, digest_wide(out));
+    number(rt, digest(out));
     line_end(rt);
 }
 

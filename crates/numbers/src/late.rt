@@ -5,7 +5,7 @@ ghost use Rattle.sums.specs.Turned.{late};
 use crate::large::taps_of;
 use crate::late_nights::{line_start, night_line};
 use crate::signals::fill_pattern;
-use lines::digest::digest_wide;
+use lines::digest::digest;
 use lines::print::{line_end, number, signed};
 use nights::Night;
 use samples::{HIGHEST_SAMPLE, LOWEST_SAMPLE};
@@ -24,6 +24,9 @@ const LONG_ORDER: u32 = 9;
 
 const LONG_PERIOD: usize = 511;
 
+// Starts at both ends of the period of order 9, and in its middle.
+const STARTS: [usize; 9] = [0, 1, 2, 10, 100, 255, 256, 509, 510];
+
 // Two responses of order 3: in the first two numbers tie for the peak, which is then the one that comes first.
 const TIED: [i32; SHORT_PERIOD] = [9, 0, -4, 0, 0, -9, 0];
 
@@ -34,19 +37,15 @@ fn fill_late(y: &[i32], out: &mut [i32], period: usize, d: usize)
     requires { (d < period) × (period ≤ 65535) × (length y.now % period ≡ 0) × (length out.old ≡ length y.now) }
     ensures { out.new ≡ late period d y.now }
 {
-    let mut j = 0;
-    while j < y.len() {
+    for j in 0..y.len() {
         let from = j / period * period + (j % period + d) % period;
         out[j] = y[from];
-        j += 1;
     }
 }
 
 fn signed_words(rt: &impl Print, r: &[i64]) {
-    let mut k = 0;
-    while k < r.len() {
-        signed(rt, r[k]);
-        k += 1;
+    for &v in r {
+        signed(rt, v);
     }
 }
 
@@ -73,12 +72,10 @@ fn short_lines(rt: &impl Print, taps: u32, h: &[i32]) {
     let mut y = [0i32; SHORT_PERIOD];
     let mut out = [0i32; SHORT_PERIOD];
     prediction::predict(SHORT_ORDER, taps, h, &mut y);
-    let mut d = 0;
-    while d < SHORT_PERIOD {
+    for d in 0..SHORT_PERIOD {
         fill_late(&y, &mut out, SHORT_PERIOD, d);
         short_line(rt, taps, d, &out);
         night_line(rt, SHORT_ORDER, taps, Night::Period, d, &out);
-        d += 1;
     }
 }
 
@@ -86,11 +83,9 @@ fn short_lines(rt: &impl Print, taps: u32, h: &[i32]) {
 fn short_nights(rt: &impl Print, night: Night, y: &[i32], out: &mut [i32])
     requires { (length y.now % 7 ≡ 0) × (length out.old ≡ length y.now) }
 {
-    let mut d = 0;
-    while d < SHORT_PERIOD {
+    for d in 0..SHORT_PERIOD {
         fill_late(y, out, SHORT_PERIOD, d);
         night_line(rt, SHORT_ORDER, FIRST_TAPS, night, d, out);
-        d += 1;
     }
 }
 
@@ -122,14 +117,15 @@ fn unkept_lines(rt: &impl Print) {
     short_nights(rt, Night::Period, &dead, &mut out);
 }
 
-// A recording of order 9, with the digest of its response.
+// A recording of order 9, with the digest of its response. It stands beside `short_line` because one function of the period would lend a room of period + 1,
+// and a const argument is not computed.
 fn long_line(rt: &impl Print, taps: u32, d: usize, y: &[i32]) {
     let mut r = [0i64; LONG_PERIOD];
     let mut room = [0i64; LONG_PERIOD + 1];
     let mut tags = [0u16; LONG_PERIOD];
     let answer = response::one_recording(LONG_ORDER, taps, y, &mut r, &mut room, &mut tags);
     answer_words(rt, LONG_ORDER, taps, d, answer.number);
-    number(rt, digest_wide(&r));
+    number(rt, digest(&r));
     line_end(rt);
 }
 
@@ -148,15 +144,9 @@ fn long_lines(rt: &impl Print, h: &[i32]) {
     let taps = taps_of(LONG_ORDER);
     let mut y = [0i32; LONG_PERIOD];
     prediction::predict(LONG_ORDER, taps, h, &mut y);
-    long_start(rt, taps, &y, 0);
-    long_start(rt, taps, &y, 1);
-    long_start(rt, taps, &y, 2);
-    long_start(rt, taps, &y, 10);
-    long_start(rt, taps, &y, 100);
-    long_start(rt, taps, &y, 255);
-    long_start(rt, taps, &y, 256);
-    long_start(rt, taps, &y, 509);
-    long_start(rt, taps, &y, 510);
+    for d in STARTS {
+        long_start(rt, taps, &y, d);
+    }
 }
 
 // The pattern, in which many numbers tie for the peak, and the same with one number above all others.

@@ -36,11 +36,9 @@ fn sample_line(rt: &impl Print, v: i32) {
 }
 
 pub fn sample_lines(rt: &impl Print) {
-    sample_line(rt, 8388606);
-    sample_line(rt, 8388607);
-    sample_line(rt, 8388608);
-    sample_line(rt, -8388608);
-    sample_line(rt, -8388609);
+    for v in [8388606, 8388607, 8388608, -8388608, -8388609] {
+        sample_line(rt, v);
+    }
 }
 
 fn mean_line(rt: &impl Print, edition: u32, r: i64, d: u64, mean: i64) {
@@ -57,10 +55,8 @@ fn edition_means(rt: &impl Print, edition: u32) {
     let r = [4i64, -4, -10, 12, -12, 3, -3, 0];
     let mut means = [0i32; 8];
     write_means(edition, &r, &mut means, 8, 8);
-    let mut k = 0;
-    while k < 8 {
-        mean_line(rt, edition, r[k], 8, means[k] as i64);
-        k += 1;
+    for (&n, &mean) in r.iter().zip(&means) {
+        mean_line(rt, edition, n, 8, i64::from(mean));
     }
 }
 

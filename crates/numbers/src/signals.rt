@@ -8,10 +8,8 @@ pub fn fill_pattern(h: &mut [i32])
     requires { length h.old ≤ 65535 }
     ensures { h.new ≡ table (length h.old) pattern }
 {
-    let mut i = 0;
-    while i < h.len() {
-        h[i] = (i * 37 % 23) as i32 - 11;
-        i += 1;
+    for (i, x) in h.iter_mut().enumerate() {
+        *x = (i * 37 % 23) as i32 - 11;
     }
 }
 
@@ -25,9 +23,7 @@ fn turn(i: usize, even: i32, odd: i32) -> i32
 pub fn fill_turns(y: &mut [i32], even: i32, odd: i32)
     ensures { y.new ≡ table (length y.old) (turns even odd) }
 {
-    let mut i = 0;
-    while i < y.len() {
-        y[i] = turn(i, even, odd);
-        i += 1;
+    for (i, x) in y.iter_mut().enumerate() {
+        *x = turn(i, even, odd);
     }
 }

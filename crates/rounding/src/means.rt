@@ -6,8 +6,8 @@ ghost use Rattle.samples.specs.Samples.{sample_out};
 ghost use Rattle.rounding.specs.Rounding.{to_even, nearest, settled, nearest_in, rounded};
 ghost use Rattle.rounding.specs.Halving.{Split, Exact, reciprocal as reciprocal_of, with_sign, raised_by};
 
+use crate::TO_EVEN;
 use crate::editions::settle;
-use crate::{Halved, TO_EVEN};
 
 // How often a divisor is halved at most, and the most that may be left of it for a reciprocal to be exact enough: of a size, and of a quotient that is raised.
 const MOST_HALVINGS: u32 = 26;
@@ -40,19 +40,11 @@ fn near(edition: u32, a: u64, d: u64) -> u64
 }
 
 // How often 2 goes into a number, up to a limit, and what is left of it.
-fn halve(d: u64) -> Halved
-    ensures { (result.rest * 2 ^ result.times ≡ d) × (result.times ≤ 26) }
+fn halve(d: u64) -> (u32, u64)
+    ensures { (result.1 * 2 ^ result.0 ≡ d) × (result.0 ≤ 26) }
 {
-    let mut rest = d;
-    let mut times = 0u32;
-    while times < MOST_HALVINGS {
-        if rest % 2 == 1 {
-            return Halved { times, rest };
-        }
-        rest = rest / 2;
-        times += 1;
-    }
-    Halved { times, rest }
+    let times = d.trailing_zeros().min(MOST_HALVINGS);
+    (times, d >> times)
 }
 
 // x / 2·d, its rest left out, by a shift and a product. No rest is a half that went up, and goes where the edition has it.
@@ -137,10 +129,8 @@ fn write_each(
     requires by_index { (k : ℕ) → k < period → sample_out (rounded edition (at r.now k) divisor) ≡ false }
     ensures { out.new ≡ put (table period (λ k. rounded edition (at r.now k) divisor)) out.old }
 {
-    let mut k = 0;
-    while k < period {
+    for k in 0..period {
         out[k] = mean_as(edition, r[k], divisor, shift, m, raised) as i32;
-        k += 1;
     }
 }
 
@@ -169,9 +159,7 @@ pub fn write_means(edition: u32, r: &[i64], out: &mut [i32], period: usize, divi
     requires by_index { (k : ℕ) → k < period → sample_out (rounded edition (at r.now k) divisor) ≡ false }
     ensures { out.new ≡ put (table period (λ k. rounded edition (at r.now k) divisor)) out.old }
 {
-    let h = halve(divisor);
-    let times = h.times;
-    let rest = h.rest;
+    let (times, rest) = halve(divisor);
     write_each(
         edition,
         r,

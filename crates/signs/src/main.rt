@@ -8,12 +8,15 @@ mod runs;
 use player::Player;
 use runs::{blocks_run, clocks_run, new};
 
+// The order, the taps and the window of players that are refused.
+const REFUSED: [(u32, u32, u32); 5] = [(1, 1, 1), (3, 8, 7), (3, 2, 7), (3, 3, 0), (3, 3, 8)];
+
 // A player that is refused gives nothing, and stays as it was.
 fn refused_runs(rt: &impl Print, order: u32, taps: u32, window: u32) {
     let player = Player {
-        order: order,
-        taps: taps,
-        window: window,
+        order,
+        taps,
+        window,
         count: 5,
     };
     blocks_run(rt, player, 1);
@@ -34,9 +37,7 @@ fn main(rt: HostRuntime) {
     };
     blocks_run(&rt, late, 17);
     clocks_run(&rt, late, 17);
-    refused_runs(&rt, 1, 1, 1);
-    refused_runs(&rt, 3, 8, 7);
-    refused_runs(&rt, 3, 2, 7);
-    refused_runs(&rt, 3, 3, 0);
-    refused_runs(&rt, 3, 3, 8);
+    for (order, taps, window) in REFUSED {
+        refused_runs(&rt, order, taps, window);
+    }
 }

@@ -11,10 +11,8 @@ pub fn mark(rt: &impl Print, minus: bool) {
 }
 
 pub fn marks(rt: &impl Print, signs: &[i8]) {
-    let mut k = 0;
-    while k < signs.len() {
-        mark(rt, signs[k] < 0);
-        k += 1;
+    for &sign in signs {
+        mark(rt, sign < 0);
     }
 }
 

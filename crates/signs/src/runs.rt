@@ -1,5 +1,5 @@
 // Runs of a player: what it begins as, its signs, and what it ends as.
-ghost use Rattle.std.specs.Prelude.{◌≤◌, ◌<◌};
+ghost use Rattle.std.specs.Prelude.{◌≤◌};
 
 use crate::held::{clocked, filled};
 use crate::print::{mark, marks, refusal};
@@ -42,13 +42,6 @@ fn end(rt: &impl Print, player: Player) {
     line_end(rt);
 }
 
-fn least(a: usize, b: usize) -> usize
-    requires { (0 < a) × (0 < b) }
-    ensures { (0 < result) × (result ≤ a) × (result ≤ b) }
-{
-    if a < b { a } else { b }
-}
-
 // The next block on a line: the player after it.
 fn block_line(rt: &impl Print, player: Player, signs: &mut [i8]) -> Player {
     let played = filled(player, signs);
@@ -75,7 +68,7 @@ pub fn blocks_run(rt: &impl Print, player: Player, total: usize) {
     let mut length = 1;
     let mut left = total;
     while 0 < left {
-        let n = least(length, left);
+        let n = length.min(left);
         next = block_of(rt, next, n);
         left -= n;
         length = length % 64 + 1;
@@ -94,13 +87,11 @@ fn tick_mark(rt: &impl Print, tick: Tick) {
 pub fn clocks_run(rt: &impl Print, player: Player, total: usize) {
     head(rt, b"clocks", player);
     let mut next = player;
-    let mut left = total;
-    while 0 < left {
+    for _ in 0..total {
         let stepped = clocked(next);
         let tick = stepped.tick;
         tick_mark(rt, tick);
         next = stepped.player;
-        left -= 1;
     }
     line_end(rt);
     end(rt, next);

@@ -7,7 +7,7 @@ use campaign::entering::enter;
 use campaign::starting::start;
 use campaign::withdrawing::withdraw;
 use campaign::{Entry, Verdict};
-use lines::digest::{digest_samples, digest_tags, digest_wide};
+use lines::digest::digest;
 use lines::print::{bits, line_end, number, word};
 use nights::Night;
 use records::Campaign;
@@ -158,8 +158,8 @@ fn counts_line(rt: &impl Print, held: Held, store: &Store) {
 fn rooms(rt: &impl Print, held: Held) {
     let room = held.room;
     let tags = held.tags;
-    number(rt, digest_wide(&room));
-    number(rt, digest_tags(&tags));
+    number(rt, digest(&room));
+    number(rt, digest(&tags));
     line_end(rt);
 }
 
@@ -168,8 +168,8 @@ fn response_words(rt: &impl Print, answer: u32, held: Held) {
     let mean = held.mean;
     word(rt, b"response");
     number(rt, answer as u64);
-    number(rt, digest_wide(&r));
-    number(rt, digest_samples(&mean));
+    number(rt, digest(&r));
+    number(rt, digest(&mean));
     rooms(rt, held);
 }
 
@@ -246,8 +246,8 @@ pub fn summary_line(rt: &impl Print, held: Held, store: &Store, wide: usize, tag
 pub fn memory_line(rt: &impl Print, held: Held, store: &Store) {
     let sums = held.sums;
     word(rt, b"memory");
-    number(rt, digest_samples(store));
-    number(rt, digest_wide(&sums));
+    number(rt, digest(store));
+    number(rt, digest(&sums));
     line_end(rt);
 }
 

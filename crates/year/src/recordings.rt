@@ -1,5 +1,5 @@
 // The day of a visit, its night and its recording.
-ghost use Rattle.std.specs.Prelude.{◌^◌, ◌≤◌, ◌<◌, length};
+ghost use Rattle.std.specs.Prelude.{ℕ, ◌^◌, ◌≤◌, ◌<◌, length};
 ghost use Rattle.nights.specs.Nights.{periods_of};
 ghost use Rattle.year.specs.Lent.{recording, visits, Runs};
 
@@ -66,23 +66,12 @@ fn quiet(i: usize, j: usize) -> i32
     up_by(smallest(i) + 31 * i * j % (spread(i) + 1))
 }
 
-fn write_sounding(y: &mut [i32], i: usize)
-    requires { (i < visits) × (length y.old ≤ recording) }
+// The sample of each place.
+fn write<F: Fn(usize) -> i32>(y: &mut [i32], sample: F)
+    requires { (j : ℕ) → j < length y.old → F.pre sample j }
 {
-    let mut j = 0;
-    while j < y.len() {
-        y[j] = sounding(i, j);
-        j += 1;
-    }
-}
-
-fn write_quiet(y: &mut [i32], i: usize)
-    requires { (i < visits) × (length y.old ≤ recording) }
-{
-    let mut j = 0;
-    while j < y.len() {
-        y[j] = quiet(i, j);
-        j += 1;
+    for (j, x) in y.iter_mut().enumerate() {
+        *x = sample(j);
     }
 }
 
@@ -136,7 +125,7 @@ fn overload_some(y: &mut [i32], i: usize)
 fn quieten(y: &mut [i32], i: usize)
     requires { (i < visits) × (0 < length y.old) × (length y.old ≤ recording) }
 {
-    write_quiet(y, i);
+    write(y, |j| quiet(i, j));
     widen(y, i);
 }
 
@@ -160,7 +149,7 @@ fn disturb(y: &mut [i32], i: usize)
 fn record_night(y: &mut [i32], from: usize, i: usize)
     requires { (i < visits) × (from < length y.old) × (length y.old ≤ recording) }
 {
-    write_sounding(y, i);
+    write(y, |j| sounding(i, j));
     mark_run_in(&mut y[..from], i);
     disturb(&mut y[from..], i);
 }

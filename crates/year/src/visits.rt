@@ -66,10 +66,8 @@ fn all_visits(rt: &impl Print, held: Held, store: &mut Store, plan: Plan) -> Hel
     requires { Runs plan }
 {
     let mut next = held;
-    let mut i = 0;
-    while i < VISITS {
+    for i in 0..VISITS {
         next = visit(rt, next, store, plan, i);
-        i += 1;
     }
     next
 }
@@ -79,10 +77,8 @@ fn last_withdrawals(rt: &impl Print, held: Held, store: &mut Store, lag: usize) 
     requires { lag ≤ visits }
 {
     let mut next = held;
-    let mut i = VISITS - lag;
-    while i < VISITS {
+    for i in VISITS - lag..VISITS {
         next = withdraw_line(rt, next, store, day_of(i));
-        i += 1;
     }
     next
 }

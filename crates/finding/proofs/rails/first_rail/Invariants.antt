@@ -1,8 +1,7 @@
 -- `finding::rails::first_rail` meets its contract: the first place at a rail lies ahead. Assumes nothing.
-use mathlib.Core.Path.{◌≡◌}
 use mathlib.Core.Bool.{Bool}
 use mathlib.Core.List.{List}
-use Prim.Native.Nat.{ℕ, ◌-◌, ◌≤◌}
+use Prim.Native.Nat.{ℕ}
 use lib.IntN.{ℤ}
 use lib.ListN.{length}
 use Rattle.sums.specs.Lists.{at}
@@ -14,7 +13,4 @@ abbrev pub test : List ℤ → ℕ → Bool
 test y j = rail (at y j)
 
 abbrev pub invariant-loop-j : goal.invariant-loop-j
-invariant-loop-j l = (l.j ≤ length l.y) × (l.n ≡ length l.y) × Ahead (test l.y) (length l.y) l.j
-
-abbrev pub decreases-loop-j : goal.decreases-loop-j
-decreases-loop-j l = length l.y - l.j
+invariant-loop-j l = Ahead (test l.y) (length l.y) l.j

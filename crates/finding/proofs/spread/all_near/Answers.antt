@@ -1,35 +1,23 @@
--- `finding::spread::all_near` meets its contract: of the samples from place j on it has the largest and the smallest. Assumes nothing.
-use mathlib.Core.Path.{◌≡◌, ap₂, ◌∙◌}
-use Prim.Native.Nat.{suc, ◌-◌}
+-- `finding::spread::all_near` meets its contract: it has the largest and the smallest of the first sample and those passed. Assumes nothing.
+use mathlib.Core.Path.{◌≡◌, ap, ap₂, ◌∙◌}
 use native.Mathlib.Omega.{arith}
 use lib.IntN.{pos, ◌-ℤ◌}
-use lib.ListN.{length}
+use lib.ListN.{length, take}
+use lib.Seq.{take_all}
 use lib.Signed.{le_z}
-use mir.Syntax.{w32}
+use Rattle.std.proofs.Common.{fold, ◌<◌}
+use Rattle.std.proofs.lemmas.Bool.Decides.{nat_tests}
+use Rattle.std.specs.Int.{int_max, int_min}
 use Rattle.sums.specs.Lists.{at}
-use Rattle.sums.proofs.Bound.{read}
-use Rattle.sums.proofs.Equal.{minus_le}
-use Rattle.sums.proofs.Scanning.{best_more, best_all}
+use Rattle.finding.proofs.Folded.{largest_folded, smallest_folded}
 use Rattle.finding.specs.Finding.{dead_spread}
-use Rattle.finding.proofs.spread.all_near.Invariants.{plain, minus}
 use Rattle.finding.proofs.spread.all_near.Goals as goal
-
-pub loop-j-preserved : goal.loop-j-preserved
-loop-j-preserved c =
-    let y = c.args.y.now in
-    let e : c.loop-j.j ≡ suc (c.loop-j.j - 1) = omega arith in
-    let i = rw e at c.loop-j.invariant in
-    let h = read w32 c.higher-most.result c.higher-most.type_inv in
-    let l = read w32 c.lower-least.result c.lower-least.type_inv in
-    let x = read w32 (at y (c.loop-j.j - 1)) (omega arith) in (
-      omega arith,
-      best_more plain (at y) (length y) i.1 x (h ∙ c.higher-most.ensures),
-      best_more minus (at y) (length y) i.2 x (l ∙ c.lower-least.ensures ∙ rw minus_le),
-    )
 
 pub returns : goal.returns
 returns c =
     let y = c.args.y.now in
-    let e : c.loop-j.j ≡ 0 = omega arith in
-    let i = rw e at c.loop-j.invariant in
-    c.near.ensures ∙ ap₂ (λ high low. le_z (high -ℤ low) (pos dead_spread)) (best_all plain (at y) (length y) i.1) (best_all minus (at y) (length y) i.2)
+    let some : 0 < length y = grind (arith, nat_tests) in
+    let all : take c.loop-x.x-index y ≡ y = take_all c.loop-x.x-index y (omega arith) in
+    let high = c.loop-x.invariant.0 ∙ ap (fold int_max (at y 0)) all ∙ largest_folded y some in
+    let low = c.loop-x.invariant.1 ∙ ap (fold int_min (at y 0)) all ∙ smallest_folded y some in
+    c.near.ensures ∙ ap₂ (λ high low. le_z (high -ℤ low) (pos dead_spread)) high low

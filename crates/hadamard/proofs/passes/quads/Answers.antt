@@ -17,7 +17,7 @@ four : (c : In-loop-i)
     let i = c.loop-i.i in
     let q = c.args.q in
     Four (at v i) (at v (i + q)) (at v (i + (q + q))) (at v (i + (q + q + q)))
-four c = quartered_fit _ _ _ _ c.loop-i-test.true c.loop-i.invariant.1 c.requires.1
+four c = quartered_fit _ _ _ _ c.loop-i-test.true c.loop-i.invariant c.requires.1
 
 pub overflow_add-p : goal.overflow_add-p
 overflow_add-p c = two_fit add nat_abs-+ (first_two (four (goal.at.overflow_add-p c).In-loop-i))
@@ -45,14 +45,12 @@ overflow_sub-v-in-loop-i c = two_fit sub nat_abs-sub (of_four (four (goal.at.ove
 
 pub loop-i-preserved : goal.loop-i-preserved
 loop-i-preserved c =
-    let f = four (goal.at.loop-i-preserved c).In-loop-i in (
-      omega arith,
-      quartered_more _ _ _ _ c.loop-i-test.true c.loop-i.invariant.1 c.requires.0 _ _ _ _
-          (four_is f add nat_abs-+ add nat_abs-+) (four_is f sub nat_abs-sub add nat_abs-+)
-          (four_is f add nat_abs-+ sub nat_abs-sub) (four_is f sub nat_abs-sub sub nat_abs-sub),
-    )
+    let f = four (goal.at.loop-i-preserved c).In-loop-i in
+    quartered_more _ _ _ _ c.loop-i-test.true c.loop-i.invariant c.requires.0 _ _ _ _
+    (four_is f add nat_abs-+ add nat_abs-+) (four_is f sub nat_abs-sub add nat_abs-+)
+    (four_is f add nat_abs-+ sub nat_abs-sub) (four_is f sub nat_abs-sub sub nat_abs-sub)
 
 pub returns : goal.returns
 returns c =
     let e : c.loop-i.i ≡ c.args.q = omega arith in
-    quartered_all _ _ c.requires.0 _ (rw e at c.loop-i.invariant.1)
+    quartered_all _ _ c.requires.0 _ (rw e at c.loop-i.invariant)

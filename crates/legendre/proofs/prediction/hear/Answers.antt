@@ -23,24 +23,22 @@ module _ (x : ℤ) {y : ℤ} (e : y ≡ x) (low : nat_abs x < 2 ^ 30) where
   doubled = to_z-of_z {w = w32} fits ∙ ap (λ z. pos 2 *ℤ z) was
 
 pub loop-j-init : goal.loop-j-init
-loop-j-init c = (omega arith, written_none)
+loop-j-init c = written_none
 
 pub overflow_mul-sums : goal.overflow_mul-sums
 overflow_mul-sums c =
     let j = c.loop-j.j in
-    fits (at c.args.sums.now j) (written_ahead c.loop-j.invariant.1 (pos 0)) (c.requires.by_index.0 j (omega arith))
+    fits (at c.args.sums.now j) (written_ahead c.loop-j.invariant (pos 0)) (c.requires.by_index.0 j (omega arith))
 
 pub overflow_sub-sums : goal.overflow_sub-sums
 overflow_sub-sums c =
     let j = c.loop-j.j in
-    rw (to_z-of_z c.ranges.whole, doubled (at c.args.sums.now j) (written_ahead c.loop-j.invariant.1 (pos 0)) (c.requires.by_index.0 j (omega arith)))
+    rw (to_z-of_z c.ranges.whole, doubled (at c.args.sums.now j) (written_ahead c.loop-j.invariant (pos 0)) (c.requires.by_index.0 j (omega arith)))
     (small_fits w32 _ (c.requires.by_index.1 j (omega arith)))
 
 pub loop-j-preserved : goal.loop-j-preserved
 loop-j-preserved c =
-    let j = c.loop-j.j in (
-      omega arith,
-      written_more c.loop-j.invariant.1 (omega arith) (to_z-of_z (overflow_sub-sums c)
-          ∙ ap (λ z. to_z w32 (of_z w32 c.args.whole) -ℤ z)
-          (doubled (at c.args.sums.now j) (written_ahead c.loop-j.invariant.1 (pos 0)) (c.requires.by_index.0 j (omega arith)))),
-    )
+    let j = c.loop-j.j in
+    written_more c.loop-j.invariant (omega arith) (to_z-of_z (overflow_sub-sums c)
+    ∙ ap (λ z. to_z w32 (of_z w32 c.args.whole) -ℤ z)
+    (doubled (at c.args.sums.now j) (written_ahead c.loop-j.invariant (pos 0)) (c.requires.by_index.0 j (omega arith))))

@@ -28,8 +28,8 @@ module _ (x : ℤ) (h : mag x < 2 ^ 31) where
       ∙ ap (λ z. pos 0 -ℤ z) doubled ∙ +ℤ_idl (neg_ℤ (pos 2 *ℤ x))
 
 pub loop-k-init : goal.loop-k-init
-loop-k-init c = (omega arith, written_none)
+loop-k-init c = written_none
 
 pub loop-k-preserved : goal.loop-k-preserved
 loop-k-preserved c =
-    (omega arith, written_more c.loop-k.invariant.1 (omega arith) (written (at c.args.sums.now c.loop-k.k) (omega arith)))
+    written_more c.loop-k.invariant (omega arith) (written (at c.args.sums.now c.loop-k.k) (omega arith))

@@ -4,7 +4,7 @@ use Rattle.legendre.proofs.Bits.{marked-none, marked_more}
 use Rattle.legendre.proofs.sequence.mark_squares.Goals as goal
 
 pub loop-i-init : goal.loop-i-init
-loop-i-init c = (omega arith, marked-none)
+loop-i-init c = marked-none
 
 pub loop-i-preserved : goal.loop-i-preserved
-loop-i-preserved c = (omega arith, marked_more c.loop-i.invariant.1 (omega arith) (omega arith))
+loop-i-preserved c = marked_more c.loop-i.invariant (omega arith) (omega arith)

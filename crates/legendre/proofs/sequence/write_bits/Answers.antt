@@ -7,5 +7,5 @@ use Rattle.legendre.proofs.sequence.write_bits.Goals as goal
 pub returns : goal.returns
 returns c =
     let p = c.args.p in
-    let marked = subst (λ w. Marked p p w c.mark_squares.new.out) c.write_ones.ensures c.mark_squares.ensures in
+    let marked = subst (λ w. Marked p p w c.mark_squares.new.out) c.fill_front.ensures c.mark_squares.ensures in
     bits_written p c.args.out.now _ marked c.requires.0 c.requires.2

@@ -10,16 +10,16 @@ use Rattle.sums.proofs.Tables.{written_none, written_more, written_all}
 use Rattle.numbers.proofs.late.fill_late.Goals as goal
 
 pub loop-j-init : goal.loop-j-init
-loop-j-init c = (omega arith, written_none)
+loop-j-init c = written_none
 
 pub loop-j-preserved : goal.loop-j-preserved
 loop-j-preserved c =
     let l = c.loop-j in
-    (omega arith, written_more l.invariant.1 (omega arith) (read w32 _ c.out-1.given))
+    written_more l.invariant (omega arith) (read w32 _ c.out-1.given)
 
 pub returns : goal.returns
 unfolding late
 returns c =
     let a = c.args in
     let e : length a.out.now ≡ length a.y.now = c.requires.3 in
-    written_all c.loop-j.invariant.1 (omega arith) ∙ ap (λ n. table n (λ i. at a.y.now (onward a.period a.d i))) e
+    written_all c.loop-j.invariant (omega arith) ∙ ap (λ n. table n (λ i. at a.y.now (onward a.period a.d i))) e

@@ -1,17 +1,31 @@
--- `rounding::means::halve` meets its contract: at each turn what is left, times the power of two taken out, is the number. Assumes nothing.
-use mathlib.Core.Path.{◌≡◌, sym, ap, ◌∙◌}
-use Prim.Native.Nat.{ℕ, ◌+◌, ◌*◌, ◌/◌, ◌%◌, ◌^◌}
-use native.Mathlib.Nat.{mul_assoc, div-add-mod', pow-succ'}
-use native.Mathlib.Numerals.{add-one}
+-- `rounding::means::halve` meets its contract: a number is what is left of it times the power of two taken out. Assumes nothing.
+use mathlib.Core.Path.{◌≡◌, refl, sym}
+use Prim.Native.Nat.{ℕ, zero, suc, ◌*◌, ◌/◌, ◌%◌, ◌^◌, ◌≤◌}
+use native.Mathlib.Nat.{pow-suc}
 use native.Mathlib.Omega.{arith}
+use lib.Count.{under, count_trailing_zeros}
+use Rattle.std.proofs.Math.Nat.{div-div-eq-div-mul}
 use Rattle.rounding.proofs.means.halve.Goals as goal
 
 -- one more 2 taken out of an even number
-again : (rest times d : ℕ) → (rest % 2 ≡ 1 → ⊥) → rest * 2 ^ times ≡ d → rest / 2 * 2 ^ (times + 1) ≡ d
-again rest times d odd e =
-    let even : rest / 2 * 2 ≡ rest = omega (arith, div-add-mod' rest 2) in
-    ap (λ p. rest / 2 * p) (ap (λ k. 2 ^ k) (add-one times) ∙ pow-succ' 2 times) ∙ sym (mul_assoc (rest / 2) 2 (2 ^ times)) ∙ ap (λ z. z * 2 ^ times) even ∙ e
+again : (t n : ℕ) → n % 2 ≡ 0 → n / 2 / 2 ^ t * 2 ^ t ≡ n / 2 → n / 2 ^ suc t * 2 ^ suc t ≡ n
+again t n even e =
+    let p : 2 ^ suc t ≡ 2 * 2 ^ t = omega (arith, pow-suc 2 t) in
+    let q : n / (2 * 2 ^ t) ≡ n / 2 / 2 ^ t = sym (div-div-eq-div-mul n 2 (2 ^ t)) in
+    let m : n / 2 / 2 ^ t * (2 * 2 ^ t) ≡ n / 2 / 2 ^ t * 2 ^ t * 2 = omega arith in
+    rw (p, q, m, e) (omega arith)
 
-pub loop-times-preserved : goal.loop-times-preserved
-loop-times-preserved c =
-    (omega arith, again c.loop-times.rest c.loop-times.times c.args.d c.if-rest-eq1.false c.loop-times.invariant.1)
+-- so many of its lowest digits are zeros
+taken : (k t n : ℕ) → t ≤ count_trailing_zeros k n → n / 2 ^ t * 2 ^ t ≡ n
+unfolding count_trailing_zeros
+taken k zero n h = omega arith
+taken zero (suc t) n h = absurd (omega arith)
+taken (suc k) (suc t) n h = go (n % 2) refl h (taken k t (n / 2))
+  where
+    go : (d : ℕ) → n % 2 ≡ d → suc t ≤ under d (count_trailing_zeros k (n / 2))
+        → (t ≤ count_trailing_zeros k (n / 2) → n / 2 / 2 ^ t * 2 ^ t ≡ n / 2) → n / 2 ^ suc t * 2 ^ suc t ≡ n
+    go zero e l ih = again t n e (ih (omega arith))
+    go (suc d) e l ih = absurd (omega arith)
+
+pub returns : goal.returns
+returns c = (taken 64 c.min-times.result c.args.d (omega arith), omega arith)

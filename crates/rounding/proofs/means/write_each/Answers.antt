@@ -22,10 +22,8 @@ fits c =
     rw (said c) (sample_fits (rounded c.args.edition (at c.args.r.now c.loop-k.k) c.args.divisor) (c.requires.by_index c.loop-k.k (omega arith)))
 
 pub loop-k-init : goal.loop-k-init
-loop-k-init c = (omega arith, written_none)
+loop-k-init c = written_none
 
 pub loop-k-preserved : goal.loop-k-preserved
-loop-k-preserved c = (
-  omega arith,
-  written_more c.loop-k.invariant.1 (omega arith) (rw (read w64 c.mean_as.result c.mean_as.type_inv) (to_z-of_z (fits c) ∙ said c)),
-)
+loop-k-preserved c =
+    written_more c.loop-k.invariant (omega arith) (rw (read w64 c.mean_as.result c.mean_as.type_inv) (to_z-of_z (fits c) ∙ said c))

@@ -1,4 +1,4 @@
--- `samples::runs::blocks_run` meets its contract: a block has 1 to 64 signs, so what is left gets less. Assumes nothing.
+-- `signs::runs::blocks_run` meets its contract: a block has 1 to 64 signs, so what is left gets less. Assumes nothing.
 use Prim.Native.Nat.{◌≤◌, ◌<◌}
 use Rattle.signs.proofs.runs.blocks_run.Given as goal
 

@@ -1,4 +1,0 @@
--- What the program's proofs cite.
-mod Fronts
-mod Products
-mod Fitting
