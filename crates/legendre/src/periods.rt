@@ -1,9 +1,11 @@
 // The periods offered, and the checks of what a measuring call is handed: a period, and a recording or a response.
 ghost use Rattle.std.specs.Prelude.{◌≡◌};
 ghost use Rattle.sums.specs.Refusals.{first};
+ghost use Rattle.refusals.specs.Causes.{answer};
 ghost use Rattle.legendre.specs.Legendre.{offered};
 ghost use Rattle.legendre.specs.Calls.{measuring_checks};
 
+use refusals::Refusal;
 use samples::range::some_out;
 
 // The longest period rounded up to a multiple of 8, and twice that.
@@ -15,27 +17,27 @@ pub const TWICE_LONGEST: usize = 256;
 pub fn offers(p: u32) -> bool
     ensures { result ≡ offered p }
 {
-    match p {
-        7 | 11 | 19 | 23 | 31 | 43 | 47 | 59 | 67 | 71 | 79 | 83 | 103 | 107 | 127 => true,
-        _ => false,
-    }
+    matches!(
+        p,
+        7 | 11 | 19 | 23 | 31 | 43 | 47 | 59 | 67 | 71 | 79 | 83 | 103 | 107 | 127
+    )
 }
 
-// The first of 25, 5, 6 and 7 that refuses these, with an output of so many places, and 0 where none does.
-pub fn refusal(p: u32, y: &[i32], places: usize) -> u32
-    ensures { result ≡ first (measuring_checks p y.now places) }
+// The checks 25, 5, 6 and 7, with an output of so many places.
+pub fn check_measuring(p: u32, y: &[i32], places: usize) -> Result<(), Refusal>
+    ensures { answer result ≡ first (measuring_checks p y.now places) }
 {
     if !offers(p) {
-        return 25;
+        return Err(Refusal::NotOffered);
     }
     if y.len() != p as usize {
-        return 5;
+        return Err(Refusal::Length);
     }
     if places < y.len() {
-        return 6;
+        return Err(Refusal::Room);
     }
     if some_out(y) {
-        return 7;
+        return Err(Refusal::Sample);
     }
-    0
+    Ok(())
 }

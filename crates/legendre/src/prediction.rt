@@ -2,11 +2,13 @@
 ghost use Rattle.std.specs.Prelude.{◌≡◌, ℕ, ◌^◌, ◌≤◌, ◌<◌, pos, nat_abs, ◌-ℤ◌, ◌*ℤ◌, length};
 ghost use Rattle.sums.specs.Sum.{sum};
 ghost use Rattle.sums.specs.Lists.{at, table, put};
+ghost use Rattle.refusals.specs.Causes.{answer};
 ghost use Rattle.legendre.specs.Calls.{eighth_outcome, prediction_outcome};
 ghost use Rattle.legendre.specs.Working.{Passed};
 
 use crate::meeting::meet;
-use crate::periods::{LONGEST, refusal};
+use crate::periods::{LONGEST, check_measuring};
+use refusals::Refusal;
 use samples::range::some_out;
 use samples::rows::copy_in;
 
@@ -33,29 +35,26 @@ fn hear(sums: &mut [i32], whole: i32, p: usize)
     }
 }
 
-// The samples, in a room of their own until they are seen to be in the range: 0, or 8 with the output left as it was.
-fn predict_all(h: &[i32], out: &mut [i32]) -> u32
+// The samples, in a room of their own until they are seen to be in the range, or 8 with the output left as it was.
+fn predict_all(h: &[i32], out: &mut [i32]) -> Result<(), Refusal>
     requires { Passed h.now × (length h.now ≤ length out.old) }
-    ensures { (result, out.new) ≡ eighth_outcome (length h.now) h.now out.old }
+    ensures { (answer result, out.new) ≡ eighth_outcome (length h.now) h.now out.old }
 {
     let p = h.len();
     let mut heard: [i32; LONGEST] = [0; LONGEST];
     meet(h, &mut heard, false);
     hear(&mut heard, sum_all(h), p);
     if some_out(&heard[..p]) {
-        return 8;
+        return Err(Refusal::Predicted);
     }
     copy_in(&heard[..p], out);
-    0
+    Ok(())
 }
 
 // y(j) at every place, refusing 25, 5, 6, 7 and 8.
-pub fn predict(p: u32, h: &[i32], out: &mut [i32]) -> u32
-    ensures { (result, out.new) ≡ prediction_outcome p h.now out.old }
+pub fn predict(p: u32, h: &[i32], out: &mut [i32]) -> Result<(), Refusal>
+    ensures { (answer result, out.new) ≡ prediction_outcome p h.now out.old }
 {
-    let refused = refusal(p, h, out.len());
-    if refused != 0 {
-        return refused;
-    }
+    check_measuring(p, h, out.len())?;
     predict_all(h, out)
 }

@@ -1,11 +1,13 @@
 // One recording turned into its response.
 ghost use Rattle.std.specs.Prelude.{◌≡◌, ◌≤◌, pos, neg_ℤ, ◌*ℤ◌, length};
 ghost use Rattle.sums.specs.Lists.{at, table, put};
+ghost use Rattle.refusals.specs.Causes.{answer};
 ghost use Rattle.legendre.specs.Calls.{turned, recording_outcome};
 ghost use Rattle.legendre.specs.Working.{Passed};
 
 use crate::meeting::meet;
-use crate::periods::{LONGEST, refusal};
+use crate::periods::{LONGEST, check_measuring};
+use refusals::Refusal;
 
 // At each place -2 times what the ones meet.
 fn write_response(sums: &[i32], out: &mut [i64], p: usize)
@@ -28,13 +30,10 @@ fn turn(y: &[i32], out: &mut [i64])
 }
 
 // r(k) at every place, refusing 25, 5, 6 and 7.
-pub fn one_recording(p: u32, y: &[i32], out: &mut [i64]) -> u32
-    ensures { (result, out.new) ≡ recording_outcome p y.now out.old }
+pub fn one_recording(p: u32, y: &[i32], out: &mut [i64]) -> Result<(), Refusal>
+    ensures { (answer result, out.new) ≡ recording_outcome p y.now out.old }
 {
-    let refused = refusal(p, y, out.len());
-    if refused != 0 {
-        return refused;
-    }
+    check_measuring(p, y, out.len())?;
     turn(y, out);
-    0
+    Ok(())
 }

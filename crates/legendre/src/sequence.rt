@@ -1,11 +1,13 @@
 // The sequence, into a lent slice.
 ghost use Rattle.std.specs.Prelude.{◌≡◌, ◌≤◌, ◌<◌, length};
 ghost use Rattle.sums.specs.Lists.{table, put};
+ghost use Rattle.refusals.specs.Causes.{answer};
 ghost use Rattle.legendre.specs.Legendre.{bit};
 ghost use Rattle.legendre.specs.Calls.{sequence_outcome};
 ghost use Rattle.legendre.specs.Working.{Marked};
 
 use crate::periods::offers;
+use refusals::Refusal;
 use samples::clearing::fill_front;
 
 // 0 at each square.
@@ -29,16 +31,16 @@ pub fn write_bits(out: &mut [u8], p: usize)
 }
 
 // The bits s(0) to s(p-1), refusing 25 and 6.
-pub fn sequence(p: u32, out: &mut [u8]) -> u32
-    ensures { (result, out.new) ≡ sequence_outcome p out.old }
+pub fn sequence(p: u32, out: &mut [u8]) -> Result<(), Refusal>
+    ensures { (answer result, out.new) ≡ sequence_outcome p out.old }
 {
     if !offers(p) {
-        return 25;
+        return Err(Refusal::NotOffered);
     }
     let count = p as usize;
     if out.len() < count {
-        return 6;
+        return Err(Refusal::Room);
     }
     write_bits(out, count);
-    0
+    Ok(())
 }
