@@ -13,7 +13,6 @@ use judging::verdicts::{judged_of, same};
 use judging::{Hearing, Judged};
 use nights::Night;
 use records::Campaign;
-use records::tables::day_stands;
 
 // Whether a verdict was handed in and is not that of the finding.
 fn contradicts(shown: Shown, found: Finding) -> bool
@@ -39,7 +38,7 @@ fn file_found(
     requires { (first (given_checks c store.old sums.old d night y.now) ≡ 0) × (found ≡ found_in c.order night y.now) }
     ensures { (result, store.new, sums.new) ≡ file_outcome c store.old sums.old d night y.now (shown_to c night y.now shown) }
 {
-    if day_stands(c, d) {
+    if c.day_stands(d) {
         return entered(c, d, Verdict::Refused(11));
     }
     if contradicts(shown, found) {
@@ -64,8 +63,7 @@ pub fn file_shown(
     if refusal != 0 {
         return entered(c, d, Verdict::Refused(refusal));
     }
-    let order = c.order;
-    match hear(order, night, y) {
+    match hear(c.order, night, y) {
         Hearing::Refused(n) => entered(c, d, Verdict::Refused(n)),
         Hearing::Found(found) => file_found(c, store, sums, d, night, y, shown, found),
     }

@@ -10,8 +10,8 @@ use nights::Night;
 use nights::shape::{periods_of, run_in};
 use records::filing::{file, mark};
 use records::slots::fill_slot;
-use records::tables::{days_in, find};
-use records::{Campaign, DEAD, OVERLOADED, STANDING};
+use records::tables::find;
+use records::{Campaign, DEAD, FREE, OVERLOADED, STANDING};
 use register::shift::full_period;
 
 // The record with the verdict beside the day.
@@ -36,15 +36,11 @@ fn keep(
     requires { first (enter_checks c store.old sums.old d night y.now) ≡ 0 }
     ensures { (result, store.new, sums.new) ≡ stayed_outcome c store.old sums.old d (periods_of night) (term_of c night y.now) }
 {
-    let capacity = c.capacity as usize;
-    let days = c.days;
-    if days_in(&days, STANDING) as usize == capacity {
+    if c.days_in(STANDING) == c.capacity {
         return entered(c, d, Verdict::Refused(12));
     }
-    let slots = c.slots;
-    let s = find(&slots, capacity, 0);
-    let order = c.order;
-    let period = full_period(order) as usize;
+    let s = find(&c.slots, c.capacity as usize, FREE);
+    let period = full_period(c.order) as usize;
     let from = run_in(night, period);
     let m = periods_of(night) as u8;
     fill_slot(s, period, m, &y[from..], store, sums);

@@ -7,7 +7,7 @@ use crate::Withdrawn;
 use crate::days::day_refusal;
 use records::filing::file;
 use records::slots::empty_slot;
-use records::tables::{day_stands, find};
+use records::tables::find;
 use records::{Campaign, FREE, NO_PERIODS, WITHDRAWN};
 use register::shift::full_period;
 
@@ -19,7 +19,7 @@ fn withdraw_refusal(c: Campaign, store: &[i32], sums: &[i64], d: u32) -> u32
     if refusal != 0 {
         return refusal;
     }
-    if !day_stands(c, d) {
+    if !c.day_stands(d) {
         return 13;
     }
     0
@@ -36,11 +36,8 @@ pub fn withdraw(c: Campaign, store: &mut [i32], sums: &mut [i64], d: u32) -> Wit
             campaign: c,
         };
     }
-    let order = c.order;
-    let capacity = c.capacity as usize;
-    let slots = c.slots;
-    let s = find(&slots, capacity, d as u16);
-    empty_slot(s, full_period(order) as usize, store, sums);
+    let s = find(&c.slots, c.capacity as usize, d as u16);
+    empty_slot(s, full_period(c.order) as usize, store, sums);
     Withdrawn {
         answer: 0,
         campaign: file(c, d, WITHDRAWN, s, FREE, NO_PERIODS),

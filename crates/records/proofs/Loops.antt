@@ -1,13 +1,12 @@
--- What a loop over the tables finds is what the record's tests ask: day i + 1 stands at place i. Assumes nothing.
+-- What a chain over the days finds is what the record's tests ask: day i + 1 stands at place i. Assumes nothing.
 use mathlib.Core.Path.{◌≡◌, ap}
-use mathlib.Core.Bool.{not, ◌||◌}
 use Prim.Native.Nat.{ℕ, ◌+◌, ◌-◌}
 use native.Mathlib.Omega.{arith}
 use lib.Dec.{eqb, leb}
 use lib.ListN.{get_or}
 use Rattle.sums.specs.Lists.{every, many}
 use Rattle.sums.proofs.Everywhere.{many_ext, every_ext}
-use Rattle.records.specs.Record.{days_in, states_hold, one_slot}
+use Rattle.records.specs.Record.{days_in, states_hold}
 use Rattle.records.specs.declared.Campaign.{Campaign}
 
 back : (i : ℕ) → i ≡ i + 1 - 1
@@ -19,7 +18,3 @@ module _ (c : Campaign) where
 
   pub states_hold_is : every 366 (λ i. leb (get_or c.days i 0) 4) ≡ states_hold c
   states_hold_is = every_ext 366 (λ i l. ap (λ k. leb (get_or c.days k 0) 4) (back i))
-
-  pub one-slot_is : every 366 (λ i. not (eqb (get_or c.days i 0) 1) || eqb (many c.capacity (λ s. eqb (get_or c.slots s 0) (i + 1))) 1) ≡ one_slot c
-  one-slot_is =
-      every_ext 366 (λ i l. ap (λ k. not (eqb (get_or c.days k 0) 1) || eqb (many c.capacity (λ s. eqb (get_or c.slots s 0) (i + 1))) 1) (back i))

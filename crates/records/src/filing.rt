@@ -8,17 +8,14 @@ use crate::{Campaign, DAYS, FREE, NO_PERIODS, SLOTS, UNSEEN};
 pub fn blank(order: u32, taps: u32, capacity: u32, edition: u32) -> Campaign
     ensures { result ≡ fresh order taps capacity edition }
 {
-    let days = [UNSEEN; DAYS];
-    let slots = [FREE; SLOTS];
-    let periods = [NO_PERIODS; SLOTS];
     Campaign {
         order,
         taps,
         capacity,
         edition,
-        days,
-        slots,
-        periods,
+        days: [UNSEEN; DAYS],
+        slots: [FREE; SLOTS],
+        periods: [NO_PERIODS; SLOTS],
     }
 }
 
@@ -28,8 +25,7 @@ pub fn mark(c: Campaign, d: u32, q: u8) -> Campaign
     ensures { result ≡ marked c d q }
 {
     let mut r = c;
-    let at = d as usize - 1;
-    r.days[at] = q;
+    r.days[d as usize - 1] = q;
     r
 }
 
@@ -38,9 +34,7 @@ pub fn file(c: Campaign, d: u32, q: u8, s: usize, t: u16, m: u8) -> Campaign
     requires { (1 ≤ d) × (d ≤ 366) × (s < 64) }
     ensures { result ≡ filed c d q s t m }
 {
-    let mut r = c;
-    let at = d as usize - 1;
-    r.days[at] = q;
+    let mut r = mark(c, d, q);
     r.slots[s] = t;
     r.periods[s] = m;
     r

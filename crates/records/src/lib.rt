@@ -13,9 +13,9 @@ pub const DAYS: usize = 366;
 pub const SLOTS: usize = 64;
 
 // The same as the largest numbers that a caller may hand in.
-pub const LAST_DAY: u32 = 366;
+pub const LAST_DAY: u32 = DAYS as u32;
 
-pub const MOST_SLOTS: u32 = 64;
+pub const MOST_SLOTS: u32 = SLOTS as u32;
 
 // A day's states.
 pub const UNSEEN: u8 = 0;
@@ -34,7 +34,7 @@ pub const FREE: u16 = 0;
 pub const NO_PERIODS: u8 = 0;
 
 // `capacity` is how many slots it has, and `edition` that of the report rules; `days` holds each day's state, `slots` each slot's day, and `periods` how
-// many periods that day's night had.
+// many periods that day's night had. Document 01 names the form: number arrays, by value.
 #[derive(Clone, Copy)]
 pub struct Campaign {
     pub order: u32,

@@ -13,10 +13,8 @@ fn take_out(row: &[i32], sums: &mut [i64])
     requires { (length row.now ≤ length sums.old) × ((j : ℕ) → j < length row.now → nat_abs (at sums.old j) ≤ 2 ^ 40) }
     ensures { sums.new ≡ put (table (length row.now) (λ j. at sums.old j -ℤ at row.now j)) sums.old }
 {
-    let mut j = 0;
-    while j < row.len() {
+    for j in 0..row.len() {
         sums[j] -= row[j] as i64;
-        j += 1;
     }
 }
 

@@ -1,136 +1,16 @@
 // The days' states and the slots' days, as the record has them.
-ghost use Rattle.std.specs.Prelude.{◌≡◌, cond, not, ◌&&◌, ◌||◌, ◌+◌, ◌-◌, ◌≤◌, eqb, ltb, leb, length, get_or};
-ghost use Rattle.sums.specs.Sum.{total};
+ghost use Rattle.std.specs.Prelude.{◌≡◌, cond, not, ◌&&◌, ◌||◌, ◌-◌, ◌≤◌, eqb, ltb, leb, length, get_or};
 ghost use Rattle.sums.specs.Lists.{every, many, seek};
-ghost use Rattle.records.specs.Record.{stands, slots_hold, states_hold, past_free, slots_stand, one_slot, periods_hold};
+ghost use Rattle.records.specs.Record.{stands, days_in, slot, free, periods_standing, slots_hold, states_hold, past_free, slots_stand, one_slot, periods_hold};
 
-use crate::{DAYS, FREE, NO_PERIODS, SLOTS, STANDING, WITHDRAWN};
+use crate::{Campaign, FREE, LAST_DAY, MOST_SLOTS, NO_PERIODS, STANDING, WITHDRAWN};
 use nights::MOST_PERIODS;
 
 // Whether a number is not 1 to the most.
 pub fn outside(n: u32, most: u32) -> bool
     ensures { result ≡ ltb n 1 || ltb most n }
 {
-    n < 1 || most < n
-}
-
-// Whether a day from 1 to 366 stands.
-pub fn day_stands(c: crate::Campaign, d: u32) -> bool
-    requires { (1 ≤ d) × (d ≤ 366) }
-    ensures { result ≡ stands c d }
-{
-    let days = c.days;
-    days[d as usize - 1] == STANDING
-}
-
-// Whether every day's state is one of the five.
-pub fn states_hold(days: &[u8]) -> bool
-    requires { length days.now ≡ 366 }
-    ensures { result ≡ every 366 (λ i. leb (get_or days.now i 0) 4) }
-{
-    let mut i = 0;
-    while i < DAYS {
-        if days[i] > WITHDRAWN {
-            return false;
-        }
-        i += 1;
-    }
-    true
-}
-
-// Whether a slot is one that was given out, or free.
-fn given_or_free(s: usize, capacity: usize, day: u16) -> bool
-    ensures { result ≡ ltb s capacity || eqb day 0 }
-{
-    s < capacity || day == FREE
-}
-
-// Whether every slot past those given out is free.
-pub fn past_free(slots: &[u16], capacity: usize) -> bool
-    requires { length slots.now ≡ 64 }
-    ensures { result ≡ every 64 (λ s. ltb s capacity || eqb (get_or slots.now s 0) 0) }
-{
-    let mut s = 0;
-    while s < SLOTS {
-        if !given_or_free(s, capacity, slots[s]) {
-            return false;
-        }
-        s += 1;
-    }
-    true
-}
-
-// Whether a slot with this day is free, or the day stands.
-fn free_or_stands(days: &[u8], day: u16) -> bool
-    requires { length days.now ≡ 366 }
-    ensures { result ≡ eqb day 0 || (leb day 366 && eqb (get_or days.now (day - 1) 0) 1) }
-{
-    day == FREE || (day as usize <= DAYS && days[day as usize - 1] == STANDING)
-}
-
-// Whether every used slot names a standing day.
-pub fn slots_stand(days: &[u8], slots: &[u16], capacity: usize) -> bool
-    requires days_len { length days.now ≡ 366 }
-    requires slots_len { length slots.now ≡ 64 }
-    requires capacity_bound { capacity ≤ 64 }
-    ensures { result ≡ every capacity (λ s. eqb (get_or slots.now s 0) 0 || (leb (get_or slots.now s 0) 366 && eqb (get_or days.now (get_or slots.now s 0 - 1) 0) 1)) }
-{
-    let mut s = 0;
-    while s < capacity {
-        if !free_or_stands(days, slots[s]) {
-            return false;
-        }
-        s += 1;
-    }
-    true
-}
-
-// 1 where the two are the same, 0 where they are not.
-fn hit(x: u16, y: u16) -> u32
-    ensures { result ≡ cond (eqb x y) 1 0 }
-{
-    if x == y { 1 } else { 0 }
-}
-
-// How many slots hold this day.
-pub fn slots_of(slots: &[u16], capacity: usize, day: u16) -> u32
-    requires slots_len { length slots.now ≡ 64 }
-    requires capacity_bound { capacity ≤ 64 }
-    ensures { result ≡ many capacity (λ s. eqb (get_or slots.now s 0) day) }
-{
-    let mut n = 0u32;
-    let mut s = 0;
-    while s < capacity {
-        n += hit(slots[s], day);
-        s += 1;
-    }
-    n
-}
-
-// Whether a day does not stand, or has exactly one slot.
-fn idle_or_once(slots: &[u16], capacity: usize, state: u8, day: u16) -> bool
-    requires slots_len { length slots.now ≡ 64 }
-    requires capacity_bound { capacity ≤ 64 }
-    ensures { result ≡ not (eqb state 1) || eqb (many capacity (λ s. eqb (get_or slots.now s 0) day)) 1 }
-{
-    state != STANDING || slots_of(slots, capacity, day) == 1
-}
-
-// Whether every standing day has exactly one slot.
-pub fn one_slot(days: &[u8], slots: &[u16], capacity: usize) -> bool
-    requires days_len { length days.now ≡ 366 }
-    requires slots_len { length slots.now ≡ 64 }
-    requires capacity_bound { capacity ≤ 64 }
-    ensures { result ≡ every 366 (λ i. not (eqb (get_or days.now i 0) 1) || eqb (many capacity (λ s. eqb (get_or slots.now s 0) (i + 1))) 1) }
-{
-    let mut i = 0;
-    while i < DAYS {
-        if !idle_or_once(slots, capacity, days[i], (i + 1) as u16) {
-            return false;
-        }
-        i += 1;
-    }
-    true
+    !(1..=most).contains(&n)
 }
 
 // The first slot that holds this day, 0 for a free one, and the number of slots where there is none.
@@ -139,28 +19,10 @@ pub fn find(slots: &[u16], capacity: usize, day: u16) -> usize
     requires capacity_bound { capacity ≤ 64 }
     ensures { result ≡ seek (λ s. eqb (get_or slots.now s 0) day) capacity 0 }
 {
-    let mut s = 0;
-    while s < capacity {
-        if slots[s] == day {
-            return s;
-        }
-        s += 1;
-    }
-    s
-}
-
-// How many days are in this state.
-pub fn days_in(days: &[u8], q: u8) -> u32
-    requires { length days.now ≡ 366 }
-    ensures { result ≡ many 366 (λ i. eqb (get_or days.now i 0) q) }
-{
-    let mut n = 0u32;
-    let mut i = 0;
-    while i < DAYS {
-        n += hit(days[i] as u16, q as u16);
-        i += 1;
-    }
-    n
+    slots[..capacity]
+        .iter()
+        .position(|&held| held == day)
+        .unwrap_or(capacity)
 }
 
 // Whether a slot with this day is free and has no periods, or has 1 to 16.
@@ -173,63 +35,118 @@ fn counted(day: u16, m: u8) -> bool
     1 <= m && m as u32 <= MOST_PERIODS
 }
 
-// Whether every used slot has 1 to 16 periods, and every other none.
-pub fn periods_hold(slots: &[u16], periods: &[u8]) -> bool
-    requires slots_len { length slots.now ≡ 64 }
-    requires periods_len { length periods.now ≡ 64 }
-    ensures { result ≡ every 64 (λ s. cond (eqb (get_or slots.now s 0) 0) (eqb (get_or periods.now s 0) 0)
-        (leb 1 (get_or periods.now s 0) && leb (get_or periods.now s 0) 16)) }
-{
-    let mut s = 0;
-    while s < SLOTS {
-        if !counted(slots[s], periods[s]) {
-            return false;
+impl Campaign {
+    // Whether a day from 1 to 366 stands.
+    pub fn day_stands(&self, d: u32) -> bool
+        requires { (1 ≤ d) × (d ≤ 366) }
+        ensures { result ≡ stands self.now d }
+    {
+        self.days[d as usize - 1] == STANDING
+    }
+
+    // How many days are in this state.
+    pub fn days_in(&self, q: u8) -> u32
+        ensures { result ≡ days_in self.now q }
+    {
+        self.days.iter().filter(|&&state| state == q).count() as u32
+    }
+
+    // How many slots hold this day.
+    fn slots_of(&self, day: u16) -> usize
+        requires { self.now.capacity ≤ 64 }
+        ensures { result ≡ many self.now.capacity (λ s. eqb (slot self.now s) day) }
+    {
+        self.slots[..self.capacity as usize]
+            .iter()
+            .filter(|&&held| held == day)
+            .count()
+    }
+
+    // How many periods the slots have.
+    pub fn periods_standing(&self) -> u32
+        requires { self.now.capacity ≤ 64 }
+        ensures { result ≡ periods_standing self.now }
+    {
+        self.periods[..self.capacity as usize]
+            .iter()
+            .map(|&m| m as u32)
+            .sum()
+    }
+
+    // Whether every day's state is one of the five.
+    fn states_hold(&self) -> bool
+        ensures { result ≡ states_hold self.now }
+    {
+        self.days.iter().all(|&state| state <= WITHDRAWN)
+    }
+
+    // Whether every slot past those given out is free.
+    fn past_free(&self) -> bool
+        ensures { result ≡ past_free self.now }
+    {
+        self.slots
+            .iter()
+            .skip(self.capacity as usize)
+            .all(|&day| day == FREE)
+    }
+
+    // Whether a slot with this day is free, or the day stands.
+    fn free_or_stands(&self, day: u16) -> bool
+        ensures { result ≡ eqb day 0 || (leb day 366 && stands self.now day) }
+    {
+        day == FREE || (day as u32 <= LAST_DAY && self.day_stands(day as u32))
+    }
+
+    // Whether every used slot names a standing day.
+    fn slots_stand(&self) -> bool
+        requires { self.now.capacity ≤ 64 }
+        ensures { result ≡ slots_stand self.now }
+    {
+        self.slots[..self.capacity as usize]
+            .iter()
+            .all(|&day| self.free_or_stands(day))
+    }
+
+    // Whether a day does not stand, or has exactly one slot.
+    fn idle_or_once(&self, d: u32) -> bool
+        requires { (1 ≤ d) × (d ≤ 366) × (self.now.capacity ≤ 64) }
+        ensures { result ≡ not (stands self.now d) || eqb (many self.now.capacity (λ s. eqb (slot self.now s) d)) 1 }
+    {
+        !self.day_stands(d) || self.slots_of(d as u16) == 1
+    }
+
+    // Whether every standing day has exactly one slot.
+    fn one_slot(&self) -> bool
+        requires { self.now.capacity ≤ 64 }
+        ensures { result ≡ one_slot self.now }
+    {
+        for d in 1..=LAST_DAY {
+            if !self.idle_or_once(d) {
+                return false;
+            }
         }
-        s += 1;
+        true
     }
-    true
-}
 
-// How many periods the slots have.
-pub fn periods_in(periods: &[u8], capacity: usize) -> u32
-    requires periods_len { length periods.now ≡ 64 }
-    requires capacity_bound { capacity ≤ 64 }
-    ensures { result ≡ total capacity (λ s. get_or periods.now s 0) }
-{
-    let mut n = 0u32;
-    let mut s = 0;
-    while s < capacity {
-        n += periods[s] as u32;
-        s += 1;
+    // Whether every used slot has 1 to 16 periods, and every other none.
+    fn periods_hold(&self) -> bool
+        ensures { result ≡ periods_hold self.now }
+    {
+        self.slots
+            .iter()
+            .zip(&self.periods)
+            .all(|(&day, &m)| counted(day, m))
     }
-    n
-}
 
-// Whether the slots, their periods and the days' states hold together.
-pub fn filed_holds(c: crate::Campaign) -> bool
-    ensures { result ≡ slots_hold c && states_hold c && past_free c && slots_stand c && one_slot c && periods_hold c }
-{
-    let capacity = c.capacity as usize;
-    let days = c.days;
-    let slots = c.slots;
-    let periods = c.periods;
-    if capacity < 1 {
-        return false;
+    // Whether the slots, their periods and the days' states hold together.
+    pub fn filed_holds(&self) -> bool
+        ensures { result ≡ slots_hold self.now && states_hold self.now && past_free self.now && slots_stand self.now && one_slot self.now && periods_hold self.now }
+    {
+        !outside(self.capacity, MOST_SLOTS)
+            && self.states_hold()
+            && self.past_free()
+            && self.slots_stand()
+            && self.one_slot()
+            && self.periods_hold()
     }
-    if capacity > SLOTS {
-        return false;
-    }
-    if !states_hold(&days) {
-        return false;
-    }
-    if !past_free(&slots, capacity) {
-        return false;
-    }
-    if !slots_stand(&days, &slots, capacity) {
-        return false;
-    }
-    if !one_slot(&days, &slots, capacity) {
-        return false;
-    }
-    periods_hold(&slots, &periods)
 }

@@ -4,7 +4,6 @@ ghost use Rattle.records.specs.Record.{together};
 
 use crate::Campaign;
 use crate::stored::store_holds;
-use crate::tables::filed_holds;
 use register::shift::full_period;
 use register::taps::taps_refusal;
 use rounding::editions::is_edition;
@@ -13,27 +12,22 @@ use rounding::editions::is_edition;
 pub fn holds(c: Campaign, store: &[i32], sums: &[i64]) -> bool
     ensures { result ≡ together c store.now sums.now }
 {
-    let order = c.order;
-    let taps = c.taps;
-    if taps_refusal(order, taps) != 0 {
+    if taps_refusal(c.order, c.taps) != 0 {
         return false;
     }
-    let edition = c.edition;
-    if !is_edition(edition) {
+    if !is_edition(c.edition) {
         return false;
     }
-    if !filed_holds(c) {
+    if !c.filed_holds() {
         return false;
     }
     let capacity = c.capacity as usize;
-    let period = full_period(order) as usize;
+    let period = full_period(c.order) as usize;
     if store.len() < capacity * period {
         return false;
     }
     if sums.len() < period {
         return false;
     }
-    let slots = c.slots;
-    let periods = c.periods;
-    store_holds(&slots, &periods, capacity, period, store, sums)
+    store_holds(&c, period, store, sums)
 }

@@ -1,5 +1,5 @@
 // The answer of response.
-ghost use Rattle.std.specs.Prelude.{◌≡◌, List, [], ◌∷◌, eqb};
+ghost use Rattle.std.specs.Prelude.{◌≡◌, [], ◌∷◌, eqb};
 ghost use Rattle.sums.specs.Refusals.{first};
 ghost use Rattle.register.specs.Register.{P};
 ghost use Rattle.records.specs.Record.{standing, days_in, apart};
@@ -7,7 +7,6 @@ ghost use Rattle.trend.specs.Calls.{answer_short, response_outcome};
 
 use crate::dividing::divisor_of;
 use crate::rooms::answer_short;
-use records::tables::days_in;
 use records::together::holds;
 use records::{Campaign, STANDING};
 use register::shift::full_period;
@@ -31,12 +30,10 @@ fn response_refusal(
     if !holds(c, store, sums) {
         return 15;
     }
-    let order = c.order;
-    if answer_short(full_period(order) as usize, r, mean, room, tags) {
+    if answer_short(full_period(c.order) as usize, r, mean, room, tags) {
         return 6;
     }
-    let days = c.days;
-    if days_in(&days, STANDING) == 0 {
+    if c.days_in(STANDING) == 0 {
         return 14;
     }
     0
@@ -59,12 +56,9 @@ pub fn response(
     if refusal != 0 {
         return refusal;
     }
-    let order = c.order;
-    let taps = c.taps;
-    let edition = c.edition;
-    let period = full_period(order) as usize;
-    let divisor = divisor_of(c);
-    turn_sums(order, taps, sums, r, room, tags);
-    write_means(edition, r, mean, period, divisor);
+    let period = full_period(c.order) as usize;
+    let divisor = divisor_of(&c);
+    turn_sums(c.order, c.taps, sums, r, room, tags);
+    write_means(c.edition, r, mean, period, divisor);
     0
 }

@@ -3,7 +3,6 @@ ghost use Rattle.std.specs.Prelude.{◌≡◌};
 ghost use Rattle.trend.specs.Calls.{tally, counts_outcome};
 
 use crate::{Counts, Tally};
-use records::tables::days_in;
 use records::together::holds;
 use records::{Campaign, DEAD, OVERLOADED, STANDING, UNSEEN, WITHDRAWN};
 
@@ -11,13 +10,12 @@ use records::{Campaign, DEAD, OVERLOADED, STANDING, UNSEEN, WITHDRAWN};
 fn tally_of(c: Campaign) -> Tally
     ensures { result ≡ tally c }
 {
-    let days = c.days;
     Tally {
-        unseen: days_in(&days, UNSEEN),
-        standing: days_in(&days, STANDING),
-        overloaded: days_in(&days, OVERLOADED),
-        dead: days_in(&days, DEAD),
-        withdrawn: days_in(&days, WITHDRAWN),
+        unseen: c.days_in(UNSEEN),
+        standing: c.days_in(STANDING),
+        overloaded: c.days_in(OVERLOADED),
+        dead: c.days_in(DEAD),
+        withdrawn: c.days_in(WITHDRAWN),
     }
 }
 

@@ -1,6 +1,5 @@
 // The levels of a summary: the extremes of a response read from the transformed room, and the double of each.
 ghost use Rattle.std.specs.Prelude.{◌≡◌, cond, ℕ, ◌+◌, ◌-◌, ◌^◌, ◌≤◌, ◌<◌, leb, nat_abs, ◌-ℤ◌, length};
-ghost use Rattle.std.specs.Int.Signed.{le_z};
 ghost use Rattle.sums.specs.Lists.{at};
 ghost use Rattle.register.specs.Register.{P, wave, tag as tag_of, Accepted};
 ghost use Rattle.response.specs.Response.{response};
@@ -19,30 +18,18 @@ pub fn level_of(z: i64, d: u64) -> f64
     requires { (nat_abs z < 2 ^ 53) × (0 < d) × (d < 2 ^ 53) }
     ensures { result ≡ level z d }
 {
-    let a = z as f64;
-    let b = d as f64;
-    a / b
+    z as f64 / d as f64
 }
 
-// The new number where it is at least the old.
-fn higher(old: i64, new: i64) -> i64
-    ensures { result ≡ cond (le_z old new) new old }
-{
-    if old <= new { new } else { old }
-}
-
-// Where it is at most the old.
-fn lower(old: i64, new: i64) -> i64
-    ensures { result ≡ cond (le_z new old) new old }
-{
-    if new <= old { new } else { old }
-}
-
-// Where its size is at least the old's.
+// The new number where its size is at least the old's.
 fn larger(old: i64, new: i64) -> i64
     ensures { result ≡ cond (leb (nat_abs old) (nat_abs new)) new old }
 {
-    if old.unsigned_abs() <= new.unsigned_abs() { new } else { old }
+    if old.unsigned_abs() <= new.unsigned_abs() {
+        new
+    } else {
+        old
+    }
 }
 
 // The extremes of what stands at the places of the response, read from the last place to the first, so that the first of those that tie is kept.
@@ -52,16 +39,14 @@ pub fn read_extremes(order: u32, taps: u32, t: &[i64], period: usize) -> Extreme
     ensures { result ≡ extremes_of period (λ k. at t.now (tag_of order taps (period - k)) -ℤ at t.now 0) }
 {
     let mut tag = tag_step(order, taps, 1);
-    let mut k = period - 1;
     let mut highest = reading(t, tag);
     let mut lowest = highest;
     let mut peak = highest;
-    while 0 < k {
+    for _ in 1..period {
         tag = tag_step(order, taps, tag);
-        k -= 1;
         let z = reading(t, tag);
-        highest = higher(highest, z);
-        lowest = lower(lowest, z);
+        highest = highest.max(z);
+        lowest = lowest.min(z);
         peak = larger(peak, z);
     }
     Extremes {

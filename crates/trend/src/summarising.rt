@@ -1,5 +1,5 @@
 // The answer of summary.
-ghost use Rattle.std.specs.Prelude.{◌≡◌, List, [], ◌∷◌, ◌^◌, ◌<◌, nat_abs};
+ghost use Rattle.std.specs.Prelude.{◌≡◌, [], ◌∷◌, ◌^◌, ◌<◌, nat_abs};
 ghost use Rattle.sums.specs.Refusals.{first};
 ghost use Rattle.register.specs.Register.{P};
 ghost use Rattle.samples.specs.Samples.{work_short};
@@ -9,7 +9,6 @@ ghost use Rattle.trend.specs.Calls.{level, summary_outcome};
 use crate::dividing::divisor_of;
 use crate::measuring::{level_of, measure};
 use crate::{Extremes, Levels, Summary};
-use records::tables::days_in;
 use records::together::holds;
 use records::{Campaign, STANDING};
 use register::shift::full_period;
@@ -21,13 +20,10 @@ fn levels_of(e: Extremes, d: u64) -> Levels
     requires d_nonzero { (0 < d) × (d < 2 ^ 53) }
     ensures { result ≡ record { highest = level e.highest d; lowest = level e.lowest d; peak = level e.peak d } }
 {
-    let highest = e.highest;
-    let lowest = e.lowest;
-    let peak = e.peak;
     Levels {
-        highest: level_of(highest, d),
-        lowest: level_of(lowest, d),
-        peak: level_of(peak, d),
+        highest: level_of(e.highest, d),
+        lowest: level_of(e.lowest, d),
+        peak: level_of(e.peak, d),
     }
 }
 
@@ -39,8 +35,7 @@ fn summary_refusal(c: Campaign, store: &[i32], sums: &[i64], room: usize, tags: 
     if !holds(c, store, sums) {
         return 15;
     }
-    let order = c.order;
-    if work_short(full_period(order) as usize, room, tags) {
+    if work_short(full_period(c.order) as usize, room, tags) {
         return 6;
     }
     0
@@ -61,13 +56,10 @@ pub fn summary(
     if refusal != 0 {
         return Summary::Refused(refusal);
     }
-    let order = c.order;
-    let taps = c.taps;
-    let days = c.days;
-    if days_in(&days, STANDING) == 0 {
+    if c.days_in(STANDING) == 0 {
         return Summary::Nothing;
     }
-    let divisor = divisor_of(c);
-    let extremes = measure(order, taps, sums, room, tags);
+    let divisor = divisor_of(&c);
+    let extremes = measure(c.order, c.taps, sums, room, tags);
     Summary::Measured(levels_of(extremes, divisor))
 }

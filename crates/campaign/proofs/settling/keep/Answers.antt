@@ -8,23 +8,22 @@ use Rattle.nights.specs.Nights.{lead}
 use Rattle.register.specs.Register.{P}
 use Rattle.records.specs.Record.{standing, days_in}
 use Rattle.campaign.specs.Calls.{settled_of}
-use Rattle.records.proofs.Loops.{days_in_is}
 use Rattle.judging.proofs.Heard.{judged_long, judged_small}
 use Rattle.campaign.proofs.Passing.{Enters, enters, period_small, slot_fits, sums_small, lowest-free}
 use Rattle.campaign.proofs.settling.keep.Goals as goal
-use Rattle.campaign.proofs.settling.keep.Goals.{After-days_in, After-find-s, After-periods_of-m, After-run_in-from, Else-days_in-capacity, Start}
+use Rattle.campaign.proofs.settling.keep.Goals.{After-days_in, After-find-s, After-periods_of-m, After-run_in-from, Else-days_in-c, Start}
 
 ready : (c : Start) → let a = c.args in Enters a.c a.store.now a.sums.now a.d a.night a.y.now
 ready c = let a = c.args in enters a.c a.store.now a.sums.now a.d a.night a.y.now c.requires
 
 standing-are : (c : After-days_in) → c.days_in.result ≡ days_in c.args.c standing
-standing-are c = c.days_in.ensures ∙ days_in_is c.args.c standing
+standing-are c = c.days_in.ensures
 
-few : (c : Else-days_in-capacity) → let r = c.args.c in days_in r standing ≡ r.capacity → ⊥
-few c e = c.if-days_in-capacity.false (standing-are c.before ∙ e)
+few : (c : Else-days_in-c) → let r = c.args.c in days_in r standing ≡ r.capacity → ⊥
+few c e = c.if-days_in-c.false (standing-are c.before ∙ e)
 
 slot-inside : (c : After-find-s) → c.find-s.result < c.args.c.capacity
-slot-inside c = rw c.find-s.ensures (lowest-free _ (ready c.before.before.before.before.before.before.before.before).whole.filed (few c.before.before.before)).0
+slot-inside c = rw c.find-s.ensures (lowest-free _ (ready c.before.before.before.before.before.before).whole.filed (few c.before.before.before)).0
 
 -- the night's numbers, as the code has them
 run-in-is : (c : After-run_in-from) → let a = c.args in c.run_in-from.result ≡ lead a.night * P a.c.order

@@ -34,7 +34,7 @@ ready c =
     withdraws a.c a.store.now a.sums.now a.d (sym c.withdraw_refusal-refusal.ensures ∙ c.if-refusal-ne0.false)
 
 slot-inside : (c : After-find-s) → c.find-s.result < c.args.c.capacity
-slot-inside c = rw c.find-s.ensures (ready c.before.before.before.before).inside
+slot-inside c = rw c.find-s.ensures (ready c.before.before.before).inside
 
 pub returns-then-refusal-ne0 : goal.returns-then-refusal-ne0
 returns-then-refusal-ne0 c = let a = c.args in refused a.c a.store.now a.sums.now a.d _ c.withdraw_refusal-refusal.ensures c.if-refusal-ne0.true

@@ -1,5 +1,5 @@
 -- `records::slots::take_out` meets its contract: the samples passed are taken from their sums. Assumes nothing.
-use Prim.Native.Nat.{◌-◌, ◌≤◌}
+use Prim.Native.Nat.{◌≤◌}
 use lib.IntN.{◌-ℤ◌}
 use lib.ListN.{length}
 use Rattle.sums.specs.Lists.{at}
@@ -8,6 +8,3 @@ use Rattle.records.proofs.slots.take_out.Given as goal
 
 abbrev pub invariant-loop-j : goal.invariant-loop-j
 invariant-loop-j l = (l.j ≤ length l.row) × Written l.j (λ i. at l.initial.sums i -ℤ at l.row i) l.initial.sums l.sums
-
-abbrev pub decreases-loop-j : goal.decreases-loop-j
-decreases-loop-j l = length l.row - l.j

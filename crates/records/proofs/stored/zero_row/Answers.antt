@@ -12,21 +12,19 @@ use Rattle.sums.proofs.Equal.{eq_z_other, eq_z-same}
 use Rattle.sums.proofs.Everywhere.{every_fails, every_more}
 use Rattle.records.proofs.stored.zero_row.Goals as goal
 
-pub loop-j-init : goal.loop-j-init
+pub loop-x-init : goal.loop-x-init
 unfolding every
-loop-j-init c = (omega arith, refl)
+loop-x-init c = refl
 
-pub returns-then-row-j-ne0 : goal.returns-then-row-j-ne0
-returns-then-row-j-ne0 c =
+pub returns-then-x-ne0 : goal.returns-then-x-ne0
+returns-then-x-ne0 c =
     let y = c.args.row.now in
-    let j = c.loop-j.j in
-    sym (every_fails (λ i. eq_z (at y i) (pos 0)) (length y) j (omega arith) (eq_z_other (at y j) (pos 0) (λ e. c.if-row-j-ne0.true (ap (of_z w32) e))))
+    let j = c.loop-x.x-index in
+    sym (every_fails (λ i. eq_z (at y i) (pos 0)) (length y) j (omega arith) (eq_z_other (at y j) (pos 0) (λ e. c.if-x-ne0.true (ap (of_z w32) e))))
 
-pub loop-j-preserved : goal.loop-j-preserved
-loop-j-preserved c =
+pub loop-x-preserved : goal.loop-x-preserved
+loop-x-preserved c =
     let y = c.args.row.now in
-    let j = c.loop-j.j in (
-      omega arith,
-      every_more (λ i. eq_z (at y i) (pos 0)) j c.loop-j.invariant.1
-          (eq_z-same (same_bits w32 (at y j) (pos 0) (record { sfits = c.t6-1.given }) (record { sfits = omega arith }) c.if-row-j-ne0.false)),
-    )
+    let j = c.loop-x.x-index in
+    every_more (λ i. eq_z (at y i) (pos 0)) j c.loop-x.invariant
+    (eq_z-same (same_bits w32 (at y j) (pos 0) (record { sfits = omega arith }) (record { sfits = omega arith }) c.if-x-ne0.false))

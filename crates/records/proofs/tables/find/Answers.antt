@@ -1,23 +1,19 @@
--- `records::tables::find` meets its contract: what is sought lies ahead. Assumes nothing.
-use native.Mathlib.Omega.{arith}
-use borrow.Author.Tests.{eq-eqb, ne_eqb}
-use Rattle.sums.proofs.Seek.{ahead_more, ahead_here, ahead_end}
-use Rattle.records.proofs.tables.find.Invariants.{test}
+-- `records::tables::find` meets its contract. Assumes nothing.
+use Rattle.std.proofs.Common.{rules, ℕ, ◌≤◌, length, eqb, ap, ◌∙◌, sym, arith, take}
+use lib.Seq.{length-take-le}
+use borrow.Author.Tests.{tests}
+use Rattle.std.proofs.lemmas.Iterator.{YieldsList-from_slice}
+use Rattle.std.proofs.lemmas.Iterator.Search.{position_from_yields_List}
+use Rattle.std.specs.Option.{unwrap_or}
+use Rattle.records.proofs.Chains.{seek_first, place_or}
 use Rattle.records.proofs.tables.find.Goals as goal
-
-pub returns-then-slots-s : goal.returns-then-slots-s
-returns-then-slots-s c =
-    let args = c.args in
-    let loop = c.loop-s in
-    ahead_here (test args.slots.now args.day) c.loop-s-test.true loop.invariant.1 (eq-eqb _ _ c.if-slots-s.true)
-
-pub loop-s-preserved : goal.loop-s-preserved
-loop-s-preserved c =
-    let args = c.args in
-    let loop = c.loop-s in
-    (omega arith, ahead_more (test args.slots.now args.day) c.loop-s-test.true loop.invariant.1 (ne_eqb _ _ c.if-slots-s.false))
 
 pub returns : goal.returns
 returns c =
-    let args = c.args in
-    ahead_end (test args.slots.now args.day) c.loop-s-test.false c.loop-s.invariant.1
+    let a = c.args in
+    let test = λ (x : ℕ). eqb x a.day in
+    let few : a.capacity ≤ length a.slots.now = omega arith in
+    c.unwrap_or.ensures
+    ∙ ap (λ r. unwrap_or r a.capacity) (position_from_yields_List test _ _ c.position.result c.position.ensures.ran (YieldsList-from_slice (take a.capacity a.slots.now) (cc)) (λ x b q k. search (rules, tests)))
+    ∙ place_or test (take a.capacity a.slots.now) a.capacity (length-take-le a.capacity a.slots.now few)
+    ∙ sym (seek_first 0 a.slots.now a.capacity few test)

@@ -1,11 +1,15 @@
--- `trend::measuring::read_extremes` meets its contract: each extreme is that of the places from k on, and the tag is that of the delay P - k.
+-- `trend::measuring::read_extremes` meets its contract: each extreme is that of the last places passed, and the tag is that of the delay reached.
 -- Assumes nothing.
-use mathlib.Core.Path.{◌≡◌, refl, ap, ◌∙◌}
+use mathlib.Core.Path.{◌≡◌, refl, sym, ap, ◌∙◌}
+use mathlib.Core.Bool.{Bool, true, false, cond}
 use mathlib.Core.List.{List}
-use Prim.Native.Nat.{ℕ, suc, ◌-◌, ◌^◌, ◌<◌, ◌≤◌}
+use Prim.Native.Nat.{ℕ, suc, ◌+◌, ◌-◌, ◌^◌, ◌<◌, ◌≤◌}
 use native.Mathlib.Omega.{arith}
 use lib.IntN.{ℤ, nat_abs, ◌-ℤ◌}
 use lib.ListN.{length}
+use lib.Signed.{lt_z, le_z}
+use Rattle.std.specs.Int.{int_max, int_min}
+use Rattle.sums.proofs.Diff.{ints, parts}
 use mir.Syntax.{w64}
 use mir.Val.{of_z, to_z}
 use Rattle.sums.specs.Lists.{at}
@@ -33,16 +37,38 @@ module _ (order taps period : ℕ) (t : List ℤ) (a : Accepted order taps × (p
       let h = below m in
       (omega (arith, a.1, a.2), small w (omega (arith, a.1)), small 0 (omega arith))
 
-  -- the first tag is that of the delay 1
-  first : (x : ℕ) → x ≡ tag_step_of order taps 1 → x ≡ tag_of order taps (period - (period - 1))
+  -- the next tag is that of the delay one longer, the first of the delay 1
+  first : (x : ℕ) → x ≡ tag_step_of order taps 1 → x ≡ tag_of order taps 1
   unfolding tag_of
-  first x s =
-      let e : period - (period - 1) ≡ 1 = omega (arith, one, a.1) in
-      tag-next order taps a.0.shaped.tapped {m = 0} refl e s
+  first x s = tag-next order taps a.0.shaped.tapped {m = 0} refl refl s
 
-  -- the next one is that of the delay one longer
-  stepped : (k tag x : ℕ) → 0 < k → k < period → tag ≡ tag_of order taps (period - k) → x ≡ tag_step_of order taps tag → x ≡ tag_of order taps (period - (k - 1))
-  stepped k tag x some l h s = tag-next order taps a.0.shaped.tapped h (omega arith) s
+  next : (i tag x : ℕ) → tag ≡ tag_of order taps i → x ≡ tag_step_of order taps tag → x ≡ tag_of order taps (i + 1)
+  next i tag x h s = tag-next order taps a.0.shaped.tapped h (omega arith) s
+
+  -- what was read is what stands at the place of that delay
+  here : (i w : ℕ) → i ≤ period → w ≡ tag_of order taps i → at t w -ℤ at t 0 ≡ value order taps t period (period - i)
+  here i w l e =
+      let back : period - (period - i) ≡ i = omega arith in
+      ap (λ u. at t u -ℤ at t 0) (e ∙ ap (tag_of order taps) (sym back))
+
+-- of two numbers, the one that counts at least as much
+higher_is : (x y : ℤ) → int_max x y ≡ cond (le_z x y) y x
+higher_is x y = go (lt_z y x) (le_z x y) refl refl
+  where
+    go : (s t : Bool) → lt_z y x ≡ s → le_z x y ≡ t → cond s x y ≡ cond t y x
+    go true true p q = absurd (omega (ints, p, q))
+    go true false p q = refl
+    go false true p q = refl
+    go false false p q = absurd (omega (ints, p, q))
+
+lower_is : (x y : ℤ) → int_min x y ≡ cond (le_z (minus x) (minus y)) y x
+lower_is x y = go (lt_z y x) (le_z y x) refl refl ∙ ap (λ b. cond b y x) (sym (minus_le x y))
+  where
+    go : (s t : Bool) → lt_z y x ≡ s → le_z y x ≡ t → cond s y x ≡ cond t y x
+    go true true p q = refl
+    go true false p q = absurd (omega (ints, p, q))
+    go false true p q = let same : x ≡ y = rw (parts x, parts y) (omega (ints, p, q)) in same
+    go false false p q = refl
 
 pub reading-highest-requires : goal.reading-highest-requires
 reading-highest-requires c =
@@ -50,37 +76,41 @@ reading-highest-requires c =
     let r = c.requires in
     readable a.order a.taps a.period a.t.now r.accepted r.by_index _ c.tag_step-tag.result (first a.order a.taps a.period a.t.now r.accepted _ c.tag_step-tag.ensures)
 
-pub loop-k-init : goal.loop-k-init
-loop-k-init c =
+pub loop-init : goal.loop-init
+loop-init c =
     let a = c.args in
     let r = c.requires.accepted in
-    let f = first a.order a.taps a.period a.t.now r _ c.tag_step-tag.ensures in
-    let e : suc (a.period - 1) ≡ a.period = omega (arith, one a.order a.taps a.period a.t.now r, r.1) in
     let v = value a.order a.taps a.t.now a.period in
-    let z : to_z w64 (of_z w64 c.reading-highest.result) ≡ v (a.period - 1) = read w64 c.reading-highest.result c.reading-highest.type_inv ∙ c.reading-highest.ensures ∙ ap (λ w. at a.t.now w -ℤ at a.t.now 0) f in
-    (omega arith, f, best_one plain v _ e z, best_one minus v _ e z, best_one sized v _ e z)
+    let some : 1 ≤ a.period = omega (arith, one a.order a.taps a.period a.t.now r, r.1) in
+    let f = first a.order a.taps a.period a.t.now r _ c.tag_step-tag.ensures in
+    let e : suc (a.period - 1) ≡ a.period = omega arith in
+    let z : to_z w64 (of_z w64 c.reading-highest.result) ≡ v (a.period - 1) =
+    read w64 c.reading-highest.result c.reading-highest.type_inv ∙ c.reading-highest.ensures ∙ here a.order a.taps a.period a.t.now r 1 _ some f in
+    (some, f, best_one plain v _ e z, best_one minus v _ e z, best_one sized v _ e z)
 
 pub reading-z-requires : goal.reading-z-requires
 reading-z-requires c =
     let a = c.args in
     let r = c.requires in
-    let i = c.loop-k.invariant in
-    readable a.order a.taps a.period a.t.now r.accepted r.by_index _ c.tag_step-tag-in-loop-k.result
-    (stepped a.order a.taps a.period a.t.now r.accepted c.loop-k.k c.loop-k.tag _ c.loop-k-test.true i.0 i.1 c.tag_step-tag-in-loop-k.ensures)
+    readable a.order a.taps a.period a.t.now r.accepted r.by_index _ c.tag_step-tag-in-loop.result
+    (next a.order a.taps a.period a.t.now r.accepted c.loop.counter c.loop.tag _ c.loop.invariant.1 c.tag_step-tag-in-loop.ensures)
 
-pub loop-k-preserved : goal.loop-k-preserved
-loop-k-preserved c =
+pub loop-preserved : goal.loop-preserved
+loop-preserved c =
     let a = c.args in
     let r = c.requires.accepted in
-    let f = stepped a.order a.taps a.period a.t.now r c.loop-k.k c.loop-k.tag _ c.loop-k-test.true c.loop-k.invariant.0 c.loop-k.invariant.1 c.tag_step-tag-in-loop-k.ensures in
+    let n = c.loop.counter in
     let v = value a.order a.taps a.t.now a.period in
-    let z : to_z w64 (of_z w64 c.reading-z.result) ≡ v (c.loop-k.k - 1) = read w64 c.reading-z.result c.reading-z.type_inv ∙ c.reading-z.ensures ∙ ap (λ w. at a.t.now w -ℤ at a.t.now 0) f in
-    let e : c.loop-k.k ≡ suc (c.loop-k.k - 1) = omega arith in
-    let i = rw e at c.loop-k.invariant in (
-      omega arith,
+    let f = next a.order a.taps a.period a.t.now r n c.loop.tag _ c.loop.invariant.1 c.tag_step-tag-in-loop.ensures in
+    let less : n + 1 ≤ a.period = omega arith in
+    let z : to_z w64 (of_z w64 c.reading-z.result) ≡ v (a.period - (n + 1)) =
+    read w64 c.reading-z.result c.reading-z.type_inv ∙ c.reading-z.ensures ∙ here a.order a.taps a.period a.t.now r (n + 1) _ less f in
+    let e : a.period - n ≡ suc (a.period - (n + 1)) = omega arith in
+    let i = rw e at c.loop.invariant in (
+      less,
       f,
-      best_more plain v _ i.2 z (read w64 c.higher-highest.result c.higher-highest.type_inv ∙ c.higher-highest.ensures),
-      best_more minus v _ i.3 z (read w64 c.lower-lowest.result c.lower-lowest.type_inv ∙ c.lower-lowest.ensures ∙ rw minus_le),
+      best_more plain v _ i.2 z (read w64 c.max-highest.result c.max-highest.type_inv ∙ c.max-highest.ensures.value ∙ higher_is (to_z w64 c.loop.highest-bits) (to_z w64 (of_z w64 c.reading-z.result))),
+      best_more minus v _ i.3 z (read w64 c.min-lowest.result c.min-lowest.type_inv ∙ c.min-lowest.ensures.value ∙ lower_is (to_z w64 c.loop.lowest-bits) (to_z w64 (of_z w64 c.reading-z.result))),
       best_more sized v _ i.4 z (read w64 c.larger-peak.result c.larger-peak.type_inv ∙ c.larger-peak.ensures),
     )
 
@@ -88,11 +118,11 @@ pub returns : goal.returns
 returns c =
     let a = c.args in
     let v = value a.order a.taps a.t.now a.period in
-    let e : c.loop-k.k ≡ 0 = omega arith in
-    let i = rw e at c.loop-k.invariant in
+    let e : a.period - c.loop.counter ≡ 0 = omega arith in
+    let i = rw e at c.loop.invariant in
     rw (best_all plain v _ i.2, best_all minus v _ i.3, best_all sized v _ i.4)
 
-pub tag_step-tag-requires-in-loop-k-clause-tag_bound : goal.tag_step-tag-requires-in-loop-k-clause-tag_bound
-tag_step-tag-requires-in-loop-k-clause-tag_bound c =
+pub tag_step-tag-requires-in-loop-clause-tag_bound : goal.tag_step-tag-requires-in-loop-clause-tag_bound
+tag_step-tag-requires-in-loop-clause-tag_bound c =
     let a = c.args in
-    rw c.loop-k.invariant.1 (below a.order a.taps a.period a.t.now c.requires.accepted (a.period - c.loop-k.k))
+    rw c.loop.invariant.1 (below a.order a.taps a.period a.t.now c.requires.accepted c.loop.counter)

@@ -1,8 +1,8 @@
--- `trend::measuring::read_extremes` meets its contract: each extreme is that of the places from k on, and the tag is that of the delay P - k.
+-- `trend::measuring::read_extremes` meets its contract: each extreme is that of the last places passed, and the tag is that of the delay reached.
 -- Assumes nothing.
 use mathlib.Core.Path.{◌≡◌}
 use mathlib.Core.List.{List}
-use Prim.Native.Nat.{ℕ, ◌-◌, ◌<◌}
+use Prim.Native.Nat.{ℕ, ◌-◌, ◌≤◌}
 use lib.IntN.{ℤ, pos, nat_abs, ◌-ℤ◌}
 use Rattle.sums.specs.Lists.{at}
 use Rattle.register.specs.Register.{tag as tag_of}
@@ -23,11 +23,10 @@ minus z = pos 0 -ℤ z
 abbrev pub sized : ℤ → ℤ
 sized z = pos (nat_abs z)
 
-abbrev pub invariant-loop-k : goal.invariant-loop-k
-invariant-loop-k l = (l.k < l.period) × (l.tag ≡ tag_of l.order l.taps (l.period - l.k))
-    × Best plain (value l.order l.taps l.t l.period) l.period l.k l.highest
-    × Best minus (value l.order l.taps l.t l.period) l.period l.k l.lowest
-    × Best sized (value l.order l.taps l.t l.period) l.period l.k l.peak
-
-abbrev pub decreases-loop-k : goal.decreases-loop-k
-decreases-loop-k l = l.k
+abbrev pub invariant-loop : goal.invariant-loop
+invariant-loop l =
+    let v = value l.order l.taps l.t l.period in
+    (l.counter ≤ l.period) × (l.tag ≡ tag_of l.order l.taps l.counter)
+    × Best plain v l.period (l.period - l.counter) l.highest
+    × Best minus v l.period (l.period - l.counter) l.lowest
+    × Best sized v l.period (l.period - l.counter) l.peak

@@ -13,7 +13,6 @@ use Rattle.register.specs.Register.{P}
 use Rattle.samples.specs.Samples.{cleared_wide, cleared_tags}
 use Rattle.records.specs.Record.{standing, days_in}
 use Rattle.records.specs.declared.Campaign.{Campaign}
-use Rattle.records.proofs.Loops.{days_in_is}
 use Rattle.records.proofs.Totals.{sum_small}
 use Rattle.trend.specs.Calls.{summary_checks, worked, divisor, level, levels_of, summary_outcome}
 use Rattle.trend.specs.declared.Extremes.{Extremes}
@@ -57,10 +56,10 @@ ready : (c : Else-refusal-ne0) → let a = c.args in Measures a.c a.store.now a.
 ready c = let a = c.args in measures a.c a.store.now a.sums.now a.room.now a.tags.now (sym c.summary_refusal-refusal.ensures ∙ c.if-refusal-ne0.false)
 
 standing-are : (c : After-days_in) → c.days_in.result ≡ days_in c.args.c standing
-standing-are c = c.days_in.ensures ∙ days_in_is c.args.c standing
+standing-are c = c.days_in.ensures
 
 some : (c : Else-days_in-eq0) → days_in c.args.c standing ≡ 0 → ⊥
-some c z = c.if-days_in-eq0.false (c.days_in.ensures ∙ days_in_is c.args.c standing ∙ z)
+some c z = c.if-days_in-eq0.false (c.days_in.ensures ∙ z)
 
 pub returns-then-refusal-ne0 : goal.returns-then-refusal-ne0
 returns-then-refusal-ne0 c = let a = c.args in refused a.c a.store.now a.sums.now a.room.now a.tags.now _ c.summary_refusal-refusal.ensures c.if-refusal-ne0.true

@@ -1,0 +1,22 @@
+-- `records::Campaign::periods_standing` meets its contract. Assumes nothing.
+use Rattle.std.proofs.Common.{rules, ◌≡◌, ◌∙◌, sym, arith, take}
+use lib.Seq.{length-take-le}
+use borrow.Author.Tests.{tests}
+use Rattle.std.proofs.iter.runs.Made.{chains}
+use Rattle.std.proofs.lemmas.Iterator.{YieldsList-from_slice}
+use Rattle.std.proofs.lemmas.Iterator.Adapters.{fits_from_length, at_most_from_yields_List}
+use Rattle.std.specs.List.{sum_by}
+use Rattle.records.proofs.Chains.{total_first}
+use Rattle.records.proofs.Campaign.periods_standing.Goals as goal
+
+pub sum-requires-clause-fits : goal.sum-requires-clause-fits
+sum-requires-clause-fits c =
+    let self = c.args.self.now in
+    fits_from_length _ _ 64 _ (at_most_from_yields_List (YieldsList-from_slice (take self.capacity self.periods) (cc)) (omega (arith, length-take-le self.capacity self.periods (omega arith))))
+    c.map.ensures.closure (omega arith) (λ x r q k. search (rules, tests))
+
+pub returns : goal.returns
+returns c =
+    let self = c.args.self.now in
+    let e : c.sum.result ≡ sum_by (λ m. m) (take self.capacity self.periods) = search (rules, chains) in
+    e ∙ sym (total_first 0 self.periods self.capacity (omega arith) (λ m. m))
