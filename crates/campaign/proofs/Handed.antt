@@ -18,8 +18,8 @@ use Rattle.judging.specs.declared.Judged.{Judged}
 use Rattle.records.specs.Record.{overloaded, dead, fresh, marked}
 use Rattle.records.specs.declared.Campaign.{Campaign}
 use Rattle.campaign.specs.Calls.{start_checks, start_outcome, file_outcome, withdraw_checks, withdraw_outcome}
-use Rattle.campaign.specs.declared.Started.{Started}
-use Rattle.campaign.specs.declared.Withdrawn.{Withdrawn}
+use Rattle.campaign.specs.Calls.{Started}
+use Rattle.campaign.specs.Calls.{Withdrawn}
 use Rattle.campaign.proofs.EntryCases.{by_cases}
 
 pub record Handed (c c' : Campaign) : Type 0 where

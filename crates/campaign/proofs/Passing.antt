@@ -32,7 +32,7 @@ use Rattle.records.proofs.Holding.{Filed, Together, not_apart}
 use Rattle.records.proofs.Refiling.{Day}
 use Rattle.records.proofs.Tallying.{used_standing}
 use Rattle.records.proofs.Totals.{sum_small}
-use Rattle.campaign.specs.declared.Started.{Started}
+use Rattle.campaign.specs.Calls.{Started}
 use Rattle.campaign.specs.Calls.{slots_out, edition_out, day_out, start_checks, start_outcome, enter_checks, judged_for, settled_of, withdraw_checks, lowest_free, slot_of_day}
 
 pub in_day : (d : ℕ) → day_out d ≡ false → Day d

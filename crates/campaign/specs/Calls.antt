@@ -1,8 +1,9 @@
 -- The calls that change a campaign, each by one function from all that is handed in to all that is handed back: document 01, "The campaign",
 -- "Refusal numbers", "Order of checks" and "Room", and document 02, requests 1, 5 and 9. Assumes nothing.
-use Rattle.std.specs.Prelude.{List, [], ◌∷◌, ◌++◌, Bool, true, false, not, ◌&&◌, ◌||◌, ℕ, ◌*◌, eqb, ltb, ℤ, pos, ◌+ℤ◌, ◌-ℤ◌, length}
+use Rattle.std.specs.Prelude.{List, [], ◌∷◌, ◌++◌, Bool, true, false, not, ◌&&◌, ◌||◌, ℕ, ◌*◌, eqb, ltb, ℤ, pos, ◌+ℤ◌, ◌-ℤ◌, length, Option, None, Some}
 use Rattle.sums.specs.Lists.{at, table, put, put_at, seek}
 use Rattle.sums.specs.Refusals.{outcome, Meaning, accepts, refuses}
+use Rattle.refusals.specs.Causes.{Answer, answer, said}
 use Rattle.register.specs.Register.{P}
 use Rattle.register.specs.Calls.{taps_checks, answer_of}
 use Rattle.samples.specs.Samples.{cleared_wide}
@@ -16,13 +17,11 @@ use Rattle.judging.specs.Judging.{night_checks, judging, same}
 use Rattle.judging.specs.declared.Judged.{Judged}
 use Rattle.records.specs.Record.{standing, overloaded, dead, withdrawn, stands, days_in, slot, free, base, sample, apart, fresh, marked, filed}
 use Rattle.records.specs.declared.Campaign.{Campaign}
-use Rattle.campaign.specs.declared.Started.{Started}
+use Rattle.campaign.specs.declared.Started as start_code
 use Rattle.campaign.specs.declared.Verdict.{Verdict}
 use Rattle.campaign.specs.declared.Verdict.TheVariants as verdict
-use Rattle.campaign.specs.declared.Shown.{Shown}
-use Rattle.campaign.specs.declared.Shown.TheVariants as shown
 use Rattle.campaign.specs.declared.Entered.{Entered}
-use Rattle.campaign.specs.declared.Withdrawn.{Withdrawn}
+use Rattle.campaign.specs.declared.Withdrawn as withdraw_code
 
 -- ---- the causes
 
@@ -47,6 +46,13 @@ day_checks c store sums d = (15, apart c store sums) ∷ (10, day_out d) ∷ []
 abbrev pub start_checks : ℕ → ℕ → ℕ → ℕ → List ℤ → List ℤ → List (ℕ × Bool)
 start_checks N taps C E store sums =
     taps_checks N taps ++ (9, slots_out C) ∷ (24, edition_out E) ∷ (6, ltb (length store) (C * P N) || ltb (length sums) (P N)) ∷ []
+
+pub record Started : Type 0 where
+  pub answer : Answer
+  pub campaign : Campaign
+
+abbrev pub started_as : start_code.Started → Started
+started_as s = record { answer = said s.answer; campaign = s.campaign }
 
 unfoldable pub start_outcome : Campaign → ℕ → ℕ → ℕ → ℕ → List ℤ → List ℤ → Started × List ℤ × List ℤ
 start_outcome c N taps C E store sums =
@@ -126,15 +132,18 @@ abbrev pub enter_outcome : Campaign → List ℤ → List ℤ → ℕ → Night 
 enter_outcome c store sums d night y = file_outcome c store sums d night y (judged_for c night y)
 
 -- the verdict that a filing goes by: judging's own, or the one handed in
+abbrev pub Shown : Type 0
+Shown = Option Judged
+
 abbrev pub own : Shown
-own = shown.Own
+own = None
 
 abbrev pub handed : Judged → Shown
-handed v = shown.Handed v
+handed v = Some v
 
 abbrev pub shown_as : Judged → Shown → Judged
-shown_as w shown.Own = w
-shown_as w (shown.Handed v) = v
+shown_as w None = w
+shown_as w (Some v) = v
 
 abbrev pub shown_to : Campaign → Night → List ℤ → Shown → Judged
 shown_to c night y s = shown_as (judged_for c night y) s
@@ -165,6 +174,14 @@ withdraw_checks c store sums d = day_checks c store sums d ++ (13, not (stands c
 
 abbrev pub slot_of_day : Campaign → ℕ → ℕ
 slot_of_day c d = seek (λ s. eqb (slot c s) d) c.capacity 0
+
+-- 0 or the refusal's number, and the record
+pub record Withdrawn : Type 0 where
+  pub answer : ℕ
+  pub campaign : Campaign
+
+abbrev pub withdrawn_as : withdraw_code.Withdrawn → Withdrawn
+withdrawn_as w = record { answer = answer w.answer; campaign = w.campaign }
 
 -- its samples leave the sums, its slot becomes free, with no periods, and holds zeros
 abbrev pub withdrawn_outcome : Campaign → List ℤ → List ℤ → ℕ → Withdrawn × List ℤ × List ℤ

@@ -4,23 +4,24 @@ ghost use Rattle.sums.specs.Refusals.{first};
 ghost use Rattle.judging.specs.Judging.{found_in, judged_of, same as same_verdict};
 ghost use Rattle.campaign.specs.Calls.{given_checks, shown_as, shown_to, file_outcome, enter_outcome};
 
-use crate::days::day_refusal;
-use crate::settling::{entered, settle};
-use crate::{Entered, Shown, Verdict};
+use crate::Entered;
+use crate::days::check_day;
+use crate::settling::{refused, settle};
 use finding::Finding;
+use judging::Judged;
 use judging::listening::hear;
 use judging::verdicts::{judged_of, same};
-use judging::{Hearing, Judged};
 use nights::Night;
 use records::Campaign;
+use refusals::Refusal;
 
 // Whether a verdict was handed in and is not that of the finding.
-fn contradicts(shown: Shown, found: Finding) -> bool
+fn contradicts(shown: Option<Judged>, found: Finding) -> bool
     ensures { result ≡ not (same_verdict (shown_as (judged_of found) shown) (judged_of found)) }
 {
     match shown {
-        Shown::Own => false,
-        Shown::Handed(verdict) => !same(verdict, judged_of(found)),
+        None => false,
+        Some(verdict) => !same(verdict, judged_of(found)),
     }
 }
 
@@ -32,22 +33,22 @@ fn file_found(
     d: u32,
     night: Night,
     y: &[i32],
-    shown: Shown,
+    shown: Option<Judged>,
     found: Finding,
 ) -> Entered
     requires { (first (given_checks c store.old sums.old d night y.now) ≡ 0) × (found ≡ found_in c.order night y.now) }
     ensures { (result, store.new, sums.new) ≡ file_outcome c store.old sums.old d night y.now (shown_to c night y.now shown) }
 {
     if c.day_stands(d) {
-        return entered(c, d, Verdict::Refused(11));
+        return refused(c, d, Refusal::Standing);
     }
     if contradicts(shown, found) {
-        return entered(c, d, Verdict::Refused(23));
+        return refused(c, d, Refusal::Verdict);
     }
     settle(c, store, sums, d, night, y, found)
 }
 
-// A day's night filed by what was shown of it, refusing 15, 10, 18, 5, 7, 11, 23, and 12 after the verdict.
+// A day's night filed by the verdict that was shown of it, or by judging's own where none was, refusing 15, 10, 18, 5, 7, 11, 23, and 12 after the verdict.
 pub fn file_shown(
     c: Campaign,
     store: &mut [i32],
@@ -55,17 +56,16 @@ pub fn file_shown(
     d: u32,
     night: Night,
     y: &[i32],
-    shown: Shown,
+    shown: Option<Judged>,
 ) -> Entered
     ensures { (result, store.new, sums.new) ≡ file_outcome c store.old sums.old d night y.now (shown_to c night y.now shown) }
 {
-    let refusal = day_refusal(c, store, sums, d);
-    if refusal != 0 {
-        return entered(c, d, Verdict::Refused(refusal));
+    if let Err(refusal) = check_day(c, store, sums, d) {
+        return refused(c, d, refusal);
     }
     match hear(c.order, night, y) {
-        Hearing::Refused(n) => entered(c, d, Verdict::Refused(n)),
-        Hearing::Found(found) => file_found(c, store, sums, d, night, y, shown, found),
+        Err(refusal) => refused(c, d, refusal),
+        Ok(found) => file_found(c, store, sums, d, night, y, shown, found),
     }
 }
 
@@ -81,7 +81,7 @@ pub fn file(
 ) -> Entered
     ensures { (result, store.new, sums.new) ≡ file_outcome c store.old sums.old d night y.now verdict }
 {
-    file_shown(c, store, sums, d, night, y, Shown::Handed(verdict))
+    file_shown(c, store, sums, d, night, y, Some(verdict))
 }
 
 // A day's night judged and filed in one call, refusing 15, 10, 18, 5, 7, 11, and 12 after the verdict.
@@ -95,5 +95,5 @@ pub fn enter(
 ) -> Entered
     ensures { (result, store.new, sums.new) ≡ enter_outcome c store.old sums.old d night y.now }
 {
-    file_shown(c, store, sums, d, night, y, Shown::Own)
+    file_shown(c, store, sums, d, night, y, None)
 }

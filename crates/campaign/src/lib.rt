@@ -7,14 +7,13 @@ mod settling;
 pub mod starting;
 pub mod withdrawing;
 
-use judging::Judged;
 use records::Campaign;
-use register::Answer;
+use refusals::Refusal;
 
-// A start's answer, and the record that it made, or that it was given.
+// The period where a start is accepted, and the record that it made, or that it was given.
 #[derive(Clone, Copy)]
 pub struct Started {
-    pub answer: Answer,
+    pub answer: Result<u32, Refusal>,
     pub campaign: Campaign,
 }
 
@@ -26,17 +25,8 @@ pub enum Verdict {
     Overloaded(usize),
     // Its largest sample minus its smallest is 7 or less.
     Dead,
-    // The refusal's number.
+    // The refusal's number, as document 01 names this form.
     Refused(u32),
-}
-
-// What a filing goes by.
-#[derive(Clone, Copy)]
-pub enum Shown {
-    // No verdict was handed in: judging's own.
-    Own,
-    // The verdict that judging showed before.
-    Handed(Judged),
 }
 
 // An entry's answer: the verdict beside the day.
@@ -54,6 +44,6 @@ pub struct Entered {
 
 #[derive(Clone, Copy)]
 pub struct Withdrawn {
-    pub answer: u32,
+    pub answer: Result<(), Refusal>,
     pub campaign: Campaign,
 }

@@ -1,8 +1,10 @@
 // What becomes of a day whose night has passed the checks.
 ghost use Rattle.std.specs.Prelude.{◌≡◌};
 ghost use Rattle.sums.specs.Refusals.{first};
+ghost use Rattle.refusals.specs.Causes.{number};
 ghost use Rattle.nights.specs.Nights.{periods_of};
 ghost use Rattle.campaign.specs.Calls.{enter_checks, term_of, stayed_outcome, found_outcome};
+ghost use Rattle.campaign.specs.declared.Verdict.TheVariants.{Refused};
 
 use crate::{Entered, Entry, Verdict};
 use finding::Finding;
@@ -12,6 +14,7 @@ use records::filing::{file, mark};
 use records::slots::fill_slot;
 use records::tables::find;
 use records::{Campaign, DEAD, FREE, OVERLOADED, STANDING};
+use refusals::Refusal;
 use register::shift::full_period;
 
 // The record with the verdict beside the day.
@@ -22,6 +25,13 @@ pub fn entered(c: Campaign, d: u32, verdict: Verdict) -> Entered
         entry: Entry { day: d, verdict },
         campaign: c,
     }
+}
+
+// The record as it was, with the refusal's number beside the day.
+pub fn refused(c: Campaign, d: u32, refusal: Refusal) -> Entered
+    ensures { result ≡ record { entry = record { day = d; verdict = Refused (number refusal) }; campaign = c } }
+{
+    entered(c, d, Verdict::Refused(refusal.number()))
 }
 
 // The periods of a night with no fault, summed, go to the lowest-numbered free slot and are added to the sums, refusing 12.
@@ -37,7 +47,7 @@ fn keep(
     ensures { (result, store.new, sums.new) ≡ stayed_outcome c store.old sums.old d (periods_of night) (term_of c night y.now) }
 {
     if c.days_in(STANDING) == c.capacity {
-        return entered(c, d, Verdict::Refused(12));
+        return refused(c, d, Refusal::Full);
     }
     let s = find(&c.slots, c.capacity as usize, FREE);
     let period = full_period(c.order) as usize;

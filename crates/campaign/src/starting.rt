@@ -1,17 +1,17 @@
 // The answer of start.
 ghost use Rattle.std.specs.Prelude.{◌≡◌, ◌||◌, [], ◌∷◌, ◌++◌, ◌*◌, ◌≤◌, ltb};
 ghost use Rattle.sums.specs.Refusals.{first};
+ghost use Rattle.refusals.specs.Causes.{said};
 ghost use Rattle.register.specs.Register.{P};
-ghost use Rattle.register.specs.Calls.{taps_checks};
-ghost use Rattle.campaign.specs.Calls.{slots_out, edition_out, start_outcome};
+ghost use Rattle.register.specs.Calls.{taps_checks, answer_of};
+ghost use Rattle.campaign.specs.Calls.{slots_out, edition_out, started_as, start_outcome};
 
 use crate::Started;
 use records::filing::blank;
 use records::tables::outside;
 use records::{Campaign, MOST_SLOTS};
-use register::shift::full_period;
-use register::taps::taps_refusal;
-use register::telling::tell;
+use refusals::Refusal;
+use register::taps::check_taps;
 use rounding::editions::is_edition;
 use samples::clearing::fill_front;
 
@@ -23,31 +23,28 @@ fn memory_short(capacity: usize, period: usize, store: usize, sums: usize) -> bo
     store < capacity * period || sums < period
 }
 
-// The first of 1, 2, 3, 4, 9, 24, 6 that refuses a start with so much memory, and 0 where none does.
-pub fn start_refusal(
+// The checks 1, 2, 3, 4, 9, 24 and 6 of a start with so much memory, and the period where none refuses.
+pub fn check_start(
     order: u32,
     taps: u32,
     capacity: u32,
     edition: u32,
     store: usize,
     sums: usize,
-) -> u32
-    ensures { result ≡ first (taps_checks order taps ++ (9, slots_out capacity) ∷ (24, edition_out edition) ∷ (6, ltb store (capacity * P order) || ltb sums (P order)) ∷ []) }
+) -> Result<u32, Refusal>
+    ensures { said result ≡ answer_of order taps (first (taps_checks order taps ++ (9, slots_out capacity) ∷ (24, edition_out edition) ∷ (6, ltb store (capacity * P order) || ltb sums (P order)) ∷ [])) }
 {
-    let refusal = taps_refusal(order, taps);
-    if refusal != 0 {
-        return refusal;
-    }
+    let period = check_taps(order, taps)?;
     if outside(capacity, MOST_SLOTS) {
-        return 9;
+        return Err(Refusal::Slots);
     }
     if !is_edition(edition) {
-        return 24;
+        return Err(Refusal::Edition);
     }
-    if memory_short(capacity as usize, full_period(order) as usize, store, sums) {
-        return 6;
+    if memory_short(capacity as usize, period as usize, store, sums) {
+        return Err(Refusal::Room);
     }
-    0
+    Ok(period)
 }
 
 // Every day unseen, every slot free, zeros in the store and the sums, refusing 1, 2, 3, 4, 9, 24, 6.
@@ -60,19 +57,17 @@ pub fn start(
     store: &mut [i32],
     sums: &mut [i64],
 ) -> Started
-    ensures { (result, store.new, sums.new) ≡ start_outcome c order taps capacity edition store.old sums.old }
+    ensures { (started_as result, store.new, sums.new) ≡ start_outcome c order taps capacity edition store.old sums.old }
 {
-    let refusal = start_refusal(order, taps, capacity, edition, store.len(), sums.len());
-    let answer = tell(order, taps, refusal);
-    if refusal != 0 {
+    let answer = check_start(order, taps, capacity, edition, store.len(), sums.len());
+    let Ok(period) = answer else {
         return Started {
             answer,
             campaign: c,
         };
-    }
-    let period = full_period(order) as usize;
-    fill_front(store, capacity as usize * period, 0);
-    fill_front(sums, period, 0);
+    };
+    fill_front(store, capacity as usize * period as usize, 0);
+    fill_front(sums, period as usize, 0);
     Started {
         answer,
         campaign: blank(order, taps, capacity, edition),

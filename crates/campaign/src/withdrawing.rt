@@ -1,45 +1,43 @@
 // The answer of withdraw.
 ghost use Rattle.std.specs.Prelude.{◌≡◌};
 ghost use Rattle.sums.specs.Refusals.{first};
-ghost use Rattle.campaign.specs.Calls.{withdraw_checks, withdraw_outcome};
+ghost use Rattle.refusals.specs.Causes.{answer};
+ghost use Rattle.campaign.specs.Calls.{withdraw_checks, withdrawn_as, withdraw_outcome};
 
 use crate::Withdrawn;
-use crate::days::day_refusal;
+use crate::days::check_day;
 use records::filing::file;
 use records::slots::empty_slot;
 use records::tables::find;
 use records::{Campaign, FREE, NO_PERIODS, WITHDRAWN};
+use refusals::Refusal;
 use register::shift::full_period;
 
-// The first of 15, 10, 13 that refuses a withdrawal, and 0 where none does.
-fn withdraw_refusal(c: Campaign, store: &[i32], sums: &[i64], d: u32) -> u32
-    ensures { result ≡ first (withdraw_checks c store.now sums.now d) }
+// The checks 15, 10 and 13.
+fn check_withdrawal(c: Campaign, store: &[i32], sums: &[i64], d: u32) -> Result<(), Refusal>
+    ensures { answer result ≡ first (withdraw_checks c store.now sums.now d) }
 {
-    let refusal = day_refusal(c, store, sums, d);
-    if refusal != 0 {
-        return refusal;
-    }
+    check_day(c, store, sums, d)?;
     if !c.day_stands(d) {
-        return 13;
+        return Err(Refusal::NotStanding);
     }
-    0
+    Ok(())
 }
 
 // A standing day leaves the sums, and its slot is free and holds zeros, refusing 15, 10, 13.
 pub fn withdraw(c: Campaign, store: &mut [i32], sums: &mut [i64], d: u32) -> Withdrawn
-    ensures { (result, store.new, sums.new) ≡ withdraw_outcome c store.old sums.old d }
+    ensures { (withdrawn_as result, store.new, sums.new) ≡ withdraw_outcome c store.old sums.old d }
 {
-    let refusal = withdraw_refusal(c, store, sums, d);
-    if refusal != 0 {
+    if let Err(refusal) = check_withdrawal(c, store, sums, d) {
         return Withdrawn {
-            answer: refusal,
+            answer: Err(refusal),
             campaign: c,
         };
     }
     let s = find(&c.slots, c.capacity as usize, d as u16);
     empty_slot(s, full_period(c.order) as usize, store, sums);
     Withdrawn {
-        answer: 0,
+        answer: Ok(()),
         campaign: file(c, d, WITHDRAWN, s, FREE, NO_PERIODS),
     }
 }

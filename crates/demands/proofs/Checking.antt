@@ -5,9 +5,9 @@ use lib.IntN.{ℤ}
 use Rattle.sums.proofs.First.{refused_same}
 use Rattle.campaign.specs.Calls.{start_checks, start_outcome, shown_to, withdraw_checks, withdraw_outcome}
 use Rattle.campaign.proofs.EntryCases.{file_refused}
-use Rattle.campaign.specs.declared.Started.{Started}
+use Rattle.campaign.specs.Calls.{Started}
 use Rattle.campaign.specs.declared.Entered.{Entered}
-use Rattle.campaign.specs.declared.Withdrawn.{Withdrawn}
+use Rattle.campaign.specs.Calls.{Withdrawn}
 use Rattle.history.specs.Run.{World, Call, start, judge, file, withdraw, counts, response, summary, after, answer}
 
 pub refused_leaves : (w : World) (call : Call) → (answer w call ≡ 0 → ⊥) → after w call ≡ w

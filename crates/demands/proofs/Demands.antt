@@ -84,13 +84,13 @@ use Rattle.judging.specs.declared.Judgement.{Judgement}
 use Rattle.judging.proofs.Late.{kept_late}
 use Rattle.judging.proofs.Judgements.{finding-accepts, judge_first, judge_told, judged_exactly}
 use Rattle.campaign.specs.Calls.{slots_out, edition_out, day_out, start_checks, start_outcome, enter_checks, judged_for, settled_of, term_of, entered, file_outcome, enter_outcome, handed, verdict_of, state_of, keeps, file_all, enter_all, withdraw_checks, withdraw_outcome, verdict_number}
-use Rattle.campaign.specs.declared.Shown.{Shown}
-use Rattle.campaign.specs.declared.Started.{Started}
+use Rattle.campaign.specs.Calls.{Shown}
+use Rattle.campaign.specs.Calls.{Started}
 use Rattle.campaign.proofs.EntryCases.{file_first, file_refused, twenty_three, other, unslotted, as_shown, refusal_shown, entry_first, entry_verdict}
 use Rattle.campaign.proofs.Passing.{start_tells}
 use Rattle.campaign.proofs.Handed.{start_edition}
 use Rattle.campaign.specs.declared.Entered.{Entered}
-use Rattle.campaign.specs.declared.Withdrawn.{Withdrawn}
+use Rattle.campaign.specs.Calls.{Withdrawn}
 use Rattle.campaign.specs.declared.Verdict.TheVariants as verdict
 use Rattle.trend.specs.Calls.{worked, mean_at, counts_outcome, counts_number, response_checks, response_outcome, summary_checks, summary_outcome, summary_number}
 use Rattle.trend.proofs.Bounds.{worked_small, mean_fits}

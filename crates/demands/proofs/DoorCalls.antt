@@ -33,7 +33,7 @@ use Rattle.judging.specs.declared.Judgement.{Judgement}
 use Rattle.judging.proofs.Judgements.{judge_first, judge_found}
 use Rattle.campaign.proofs.Handed.{Handed, file_handed, withdraw_handed}
 use Rattle.campaign.specs.Calls.{enter_checks, file_outcome, own, handed, shown_to, file_all, enter_all, verdict_of, state_of, withdraw_checks, verdict_means}
-use Rattle.campaign.specs.declared.Shown.{Shown}
+use Rattle.campaign.specs.Calls.{Shown}
 use Rattle.campaign.proofs.EntryCases.{accepted_verdict, refusal_shown}
 use Rattle.trend.specs.Calls.{answer_short, response_checks, summary_checks}
 use Rattle.trend.proofs.Enough.{answer_short_lem}

@@ -19,8 +19,8 @@ use Rattle.records.specs.Record.{fresh}
 use Rattle.records.specs.declared.Campaign.{Campaign}
 use Rattle.campaign.proofs.Handed.{Handed, file_handed, withdraw_handed}
 use Rattle.campaign.specs.Calls.{start_checks, start_outcome, file_outcome, shown_to, withdraw_outcome}
-use Rattle.campaign.specs.declared.Shown.{Shown}
-use Rattle.campaign.specs.declared.Started.{Started}
+use Rattle.campaign.specs.Calls.{Shown}
+use Rattle.campaign.specs.Calls.{Started}
 use Rattle.trend.specs.Calls.{response_outcome, summary_outcome, counts_outcome}
 use Rattle.trend.specs.declared.Tally.{Tally}
 use Rattle.trend.specs.declared.Levels.{Levels}

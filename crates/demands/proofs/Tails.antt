@@ -26,7 +26,7 @@ use Rattle.records.specs.Record.{standing, days_in, base, together}
 use Rattle.records.specs.declared.Campaign.{Campaign}
 use Rattle.records.proofs.Holding.{holds-together}
 use Rattle.campaign.specs.Calls.{start_checks, start_outcome, settled_of, term_of, entered, file_outcome, withdraw_outcome}
-use Rattle.campaign.specs.declared.Started.{Started}
+use Rattle.campaign.specs.Calls.{Started}
 use Rattle.campaign.specs.declared.Verdict.TheVariants as verdict
 use Rattle.trend.specs.Calls.{response_checks, response_outcome, summary_checks, summary_outcome}
 use Rattle.trend.specs.declared.Summary.{Summary}

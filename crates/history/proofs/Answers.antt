@@ -23,8 +23,8 @@ use Rattle.trend.specs.Calls.{response_checks, summary_checks, tally, counts_out
 use Rattle.trend.proofs.Enough.{answer_enough}
 use Rattle.history.specs.Run.{World, Call, start, judge, file, withdraw, counts, response, summary, answer}
 use Rattle.records.specs.declared.Campaign.{Campaign}
-use Rattle.campaign.specs.declared.Started.{Started}
-use Rattle.campaign.specs.declared.Withdrawn.{Withdrawn}
+use Rattle.campaign.specs.Calls.{Started}
+use Rattle.campaign.specs.Calls.{Withdrawn}
 use Rattle.trend.specs.declared.Counts.{Counts}
 use Rattle.trend.specs.declared.Counts.TheVariants as counted
 use Rattle.trend.specs.declared.Summary.{Summary}

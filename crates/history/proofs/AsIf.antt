@@ -22,11 +22,11 @@ use Rattle.nights.specs.declared.Night.{Night}
 use Rattle.records.specs.Record.{standing, withdrawn, state, stands, days_in, together}
 use Rattle.judging.specs.Judging.{night_checks, judging, same}
 use Rattle.campaign.specs.Calls.{day_out, settled_of, full_checks, shown_as, shown_to, withdraw_checks, withdrawn_outcome, file_outcome, withdraw_outcome, state_of, keeps}
-use Rattle.campaign.specs.declared.Shown.{Shown}
+use Rattle.campaign.specs.Calls.{Shown}
 use Rattle.campaign.proofs.EntryCases.{file_first}
 use Rattle.history.specs.Run.{World, Call, start, judge, file, withdraw, counts, response, summary, after, answer, accepted, run, starts, under_way, begun, names, makes, made, Heard, term_at, recording, heard, Elsewhere}
 use Rattle.records.specs.declared.Campaign.{Campaign}
-use Rattle.campaign.specs.declared.Withdrawn.{Withdrawn}
+use Rattle.campaign.specs.Calls.{Withdrawn}
 use Rattle.records.proofs.Holding.{holds-together}
 use Rattle.records.proofs.Tallying.{standing_most}
 use Rattle.records.proofs.Refiling.{Day, day}

@@ -17,9 +17,9 @@ use Rattle.player.specs.declared.Played.{Played}
 use Rattle.player.specs.declared.Stepped.{Stepped}
 use Rattle.player.specs.declared.Tick.{Tick}
 use Rattle.judging.specs.declared.Judgement.{Judgement}
-use Rattle.campaign.specs.declared.Started.{Started}
+use Rattle.campaign.specs.Calls.{Started}
 use Rattle.campaign.specs.declared.Entered.{Entered}
-use Rattle.campaign.specs.declared.Withdrawn.{Withdrawn}
+use Rattle.campaign.specs.Calls.{Withdrawn}
 use Rattle.trend.specs.declared.Counts.{Counts}
 use Rattle.trend.specs.declared.Summary.{Summary}
 use Rattle.register.proofs.taps.check_taps.Kinds as check_taps_kinds

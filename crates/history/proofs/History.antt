@@ -19,7 +19,7 @@ use Rattle.nights.specs.declared.Night.{Night}
 use Rattle.nights.proofs.Terms.{term_long, term-at}
 use Rattle.records.specs.Record.{unseen, standing, withdrawn, state, slot, periods, base, sample, together, fresh, marked, filed}
 use Rattle.campaign.specs.Calls.{start_outcome, file_outcome, shown_to, withdraw_outcome}
-use Rattle.campaign.specs.declared.Shown.{Shown}
+use Rattle.campaign.specs.Calls.{Shown}
 use Rattle.history.specs.Run.{World, Call, start, judge, file, withdraw, counts, response, summary, after, answer, accepted, run, starts, under_way, begins, begun, names, makes, made, Heard, term_at, nothing, recording, heard}
 use Rattle.records.specs.declared.Campaign.{Campaign}
 use Rattle.records.proofs.Holding.{Together, holds-together}

@@ -22,9 +22,9 @@ use Rattle.judging.proofs.Heard.{from_passed, judged_long, judged_ranged}
 use Rattle.campaign.specs.Calls.{start_checks, start_outcome, file_checks, settled_of, term_of, withdraw_checks, lowest_free, slot_of_day, withdrawn_outcome, file_outcome, withdraw_outcome, state_of, verdict_number}
 use Rattle.history.specs.Run.{World}
 use Rattle.records.specs.declared.Campaign.{Campaign}
-use Rattle.campaign.specs.declared.Started.{Started}
+use Rattle.campaign.specs.Calls.{Started}
 use Rattle.campaign.specs.declared.Entered.{Entered}
-use Rattle.campaign.specs.declared.Withdrawn.{Withdrawn}
+use Rattle.campaign.specs.Calls.{Withdrawn}
 use Rattle.campaign.proofs.EntryCases.{by_cases}
 use Rattle.campaign.proofs.Passing.{Begins, begins, in_day, lowest-free, slot_of_day_lem}
 use Rattle.records.proofs.Holding.{holds-together}

@@ -22,7 +22,7 @@ use Rattle.nights.specs.Nights.{periods_of}
 use Rattle.nights.specs.declared.Night.{Night}
 use Rattle.nights.proofs.Terms.{term_long}
 use Rattle.campaign.specs.Calls.{day_out, settled_of, term_of, withdraw_checks, slot_of_day, withdrawn_outcome, withdraw_outcome, file_outcome, shown_to}
-use Rattle.campaign.specs.declared.Shown.{Shown}
+use Rattle.campaign.specs.Calls.{Shown}
 use Rattle.history.specs.Run.{World, file, withdraw, after, answer, makes}
 use Rattle.records.specs.declared.Campaign.{Campaign}
 use Rattle.records.proofs.Holding.{Together, holds-together}

@@ -10,7 +10,7 @@ use Rattle.nights.specs.declared.Night.{Night}
 use Rattle.records.specs.Record.{unseen, withdrawn, fresh}
 use Rattle.judging.specs.Judging.{judging, judged_number}
 use Rattle.campaign.specs.Calls.{start_outcome, settled_of, file_outcome, own, shown_to, withdraw_outcome, state_of, verdict_number}
-use Rattle.campaign.specs.declared.Shown.{Shown}
+use Rattle.campaign.specs.Calls.{Shown}
 use Rattle.trend.specs.Calls.{counts_outcome, response_outcome, summary_outcome, counts_number, summary_number}
 use Rattle.records.specs.declared.Campaign.{Campaign}
 

@@ -18,7 +18,7 @@ use Rattle.register.specs.Calls.{taps_checks, taps_answer, answer_of}
 use Rattle.rounding.specs.Rounding.{away_from_zero}
 use Rattle.records.specs.declared.Campaign.{Campaign}
 use Rattle.campaign.specs.Calls.{start_checks, start_outcome}
-use Rattle.campaign.specs.declared.Started.{Started}
+use Rattle.campaign.specs.Calls.{Started}
 use Rattle.campaign.proofs.Passing.{only_edition}
 use Rattle.logeffects.specs.Book.{too_large, log_start_checks, over, started_by, began_outcome}
 use Rattle.report.specs.declared.Line.TheVariants as line

@@ -12,10 +12,10 @@ use Rattle.records.specs.Record.{fresh}
 use Rattle.records.specs.declared.Campaign.{Campaign}
 use Rattle.judging.specs.Judging.{judge_outcome}
 use Rattle.campaign.specs.Calls.{slots_out, day_out, start_outcome, entered, file_outcome, withdraw_outcome}
-use Rattle.campaign.specs.declared.Started.{Started}
+use Rattle.campaign.specs.Calls.{Started}
 use Rattle.campaign.specs.declared.Verdict.TheVariants as verdict
 use Rattle.campaign.specs.declared.Entered.{Entered}
-use Rattle.campaign.specs.declared.Withdrawn.{Withdrawn}
+use Rattle.campaign.specs.Calls.{Withdrawn}
 use Rattle.trend.specs.Calls.{counts_outcome, response_outcome}
 use Rattle.trend.specs.declared.Tally.{Tally}
 use Rattle.trend.specs.declared.Counts.{Counts}

@@ -32,7 +32,7 @@ use Rattle.campaign.proofs.EntryCases.{entry_first}
 use Rattle.campaign.proofs.Passing.{start_tells, afresh}
 use Rattle.campaign.specs.declared.Entered.{Entered}
 use Rattle.campaign.specs.declared.Verdict.TheVariants as verdict
-use Rattle.campaign.specs.declared.Withdrawn.{Withdrawn}
+use Rattle.campaign.specs.Calls.{Withdrawn}
 use Rattle.trend.specs.Calls.{counts_outcome, response_checks, response_outcome}
 use Rattle.trend.proofs.Enough.{response_enough}
 use Rattle.trend.specs.declared.Tally.{Tally}

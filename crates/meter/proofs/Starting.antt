@@ -18,7 +18,7 @@ use Rattle.register.specs.Calls.{taps_checks, answer_of, taps_answer}
 use Rattle.register.proofs.Judged.{accepted_exactly}
 use Rattle.samples.specs.Samples.{cleared_wide}
 use Rattle.records.specs.Record.{fresh}
-use Rattle.campaign.specs.declared.Started.{Started}
+use Rattle.campaign.specs.Calls.{Started}
 use Rattle.campaign.specs.Calls.{slots_out, edition_out, start_checks, start_outcome}
 use Rattle.meter.specs.Doors.{tables_short, record_of, start_door_checks, start_door}
 use Rattle.meter.proofs.Opening.{long, put_backs}

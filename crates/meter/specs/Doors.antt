@@ -13,9 +13,9 @@ use Rattle.judging.specs.declared.Judged.{Judged}
 use Rattle.judging.specs.declared.Judged.TheVariants as judged
 use Rattle.records.specs.Record.{standing, overloaded, dead, fresh}
 use Rattle.records.specs.declared.Campaign.{Campaign}
-use Rattle.campaign.specs.declared.Shown.{Shown}
+use Rattle.campaign.specs.Calls.{Shown}
 use Rattle.campaign.specs.declared.Entered.{Entered}
-use Rattle.campaign.specs.declared.Withdrawn.{Withdrawn}
+use Rattle.campaign.specs.Calls.{Withdrawn}
 use Rattle.campaign.specs.Calls.{slots_out, edition_out, file_outcome, shown_to, withdraw_outcome, verdict_means, verdict_number}
 use Rattle.trend.specs.declared.Tally.{Tally}
 use Rattle.trend.specs.declared.Counts.{Counts}

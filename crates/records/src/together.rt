@@ -5,14 +5,14 @@ ghost use Rattle.records.specs.Record.{together};
 use crate::Campaign;
 use crate::stored::store_holds;
 use register::shift::full_period;
-use register::taps::taps_refusal;
+use register::taps::accepts;
 use rounding::editions::is_edition;
 
 // Whether the record holds together with the store and the sums.
 pub fn holds(c: Campaign, store: &[i32], sums: &[i64]) -> bool
     ensures { result ≡ together c store.now sums.now }
 {
-    if taps_refusal(c.order, c.taps) != 0 {
+    if !accepts(c.order, c.taps) {
         return false;
     }
     if !is_edition(c.edition) {

@@ -20,7 +20,7 @@ use Rattle.refusals.specs.Causes.{Answer}
 use Rattle.register.proofs.Judged.{FirstReturn, first_return, maximal_period, shaped, passes_shape, accepted_exactly}
 
 module _ (N taps : ℕ) (more : List (ℕ × Bool)) where
-  passed_taps : first (taps_checks N taps ++ more) ≡ 0 → taps_answer N taps ≡ 0
+  pub passed_taps : first (taps_checks N taps ++ more) ≡ 0 → taps_answer N taps ≡ 0
   unfolding taps_answer
   passed_taps e = elim (ℕ_discrete (first (taps_checks N taps)) 0) [
     | yes z ↦ z

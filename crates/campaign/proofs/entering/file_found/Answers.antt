@@ -65,12 +65,12 @@ pub returns-then-day_stands : goal.returns-then-day_stands
 returns-then-day_stands c =
     let a = c.args in
     refused a.c a.store.now a.sums.now a.d a.night a.y.now (shown_to a.c a.night a.y.now a.shown)
-    (eleven a.c a.store.now a.sums.now a.d a.night a.y.now c.requires.0 true (sym c.if-day_stands.true ∙ c.day_stands.ensures)) c.entered.ensures
+    (eleven a.c a.store.now a.sums.now a.d a.night a.y.now c.requires.0 true (sym c.if-day_stands.true ∙ c.day_stands.ensures)) c.refused.ensures
 
 pub returns-then-contradicts : goal.returns-then-contradicts
 returns-then-contradicts c =
     let a = c.args in
-    ap (λ r. (r, a.store.now, a.sums.now)) c.entered-then-contradicts.ensures
+    ap (λ r. (r, a.store.now, a.sums.now)) c.refused-then-contradicts.ensures
     ∙ decided a.c a.store.now a.sums.now a.d a.night a.y.now (shown_to a.c a.night a.y.now a.shown) (early (goal.at.returns-then-contradicts c).Else-day_stands) (sym c.if-contradicts.true ∙ tested (goal.at.returns-then-contradicts c).After-contradicts)
 
 pub returns : goal.returns

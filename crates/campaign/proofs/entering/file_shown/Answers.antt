@@ -1,11 +1,13 @@
 -- `campaign::entering::file_shown` meets its contract: the record and the day decide 15 and 10, and what is heard of the night the rest. Assumes nothing.
-use mathlib.Core.Path.{◌≡◌, sym, ap, ◌∙◌}
+use mathlib.Core.Path.{◌≡◌, refl, sym, ap, ◌∙◌}
 use mathlib.Core.List.{List, [], ◌∷◌, ◌++◌}
 use Prim.Native.Nat.{ℕ}
 use lib.IntN.{ℤ}
 use mathlib.Core.Bool.{Bool, not}
 use Rattle.sums.specs.Refusals.{first}
 use Rattle.sums.proofs.First.{passes, refused_early, passed_early}
+use Rattle.refusals.specs.Causes.{number}
+use Rattle.refusals.proofs.Causes.{never_0}
 use Rattle.finding.specs.Finding.{finding}
 use Rattle.nights.specs.Nights.{periods_of}
 use Rattle.nights.specs.declared.Night.{Night}
@@ -42,19 +44,21 @@ module _ (c : Campaign) (store sums : List ℤ) (d : ℕ) (night : Night) (y : L
       ap (λ r. (r, store, sums)) p
       ∙ sym (passed_early back made (day_checks c store sums d) (night_checks c.order night y ++ late) n tt e z ∙ refused_early back made (night_checks c.order night y) late k (sym f) h)
 
-pub returns-then-refusal-ne0 : goal.returns-then-refusal-ne0
-returns-then-refusal-ne0 c =
+pub returns-in-Err : goal.returns-in-Err
+returns-in-Err c =
     let a = c.args in
-    refused-day a.c a.store.now a.sums.now a.d a.night a.y.now (shown_to a.c a.night a.y.now a.shown) _ c.day_refusal-refusal.ensures c.if-refusal-ne0.true c.entered.ensures
+    let k = c.in-Err.refusal in
+    refused-day a.c a.store.now a.sums.now a.d a.night a.y.now (shown_to a.c a.night a.y.now a.shown) (number k) c.in-Err.ensures (never_0 k) c.refused.ensures
 
 pub hear-requires : goal.hear-requires
 hear-requires c =
     let a = c.args in
-    let p = passes (day_checks a.c a.store.now a.sums.now a.d) tt (sym c.day_refusal-refusal.ensures ∙ c.if-refusal-ne0.false) in
+    let p = passes (day_checks a.c a.store.now a.sums.now a.d) tt (sym c.in_default.ensures) in
     (not_apart a.c a.store.now a.sums.now p.0).filed.accepted.shaped.most
 
-pub returns-in-Refused : goal.returns-in-Refused
-returns-in-Refused c =
+pub returns-in-Err-hear : goal.returns-in-Err-hear
+returns-in-Err-hear c =
     let a = c.args in
-    refused-night a.c a.store.now a.sums.now a.d a.night a.y.now (shown_to a.c a.night a.y.now a.shown) _ c.in-Refused.n c.day_refusal-refusal.ensures c.if-refusal-ne0.false
-    (refused_heard a.c.order a.night a.y.now c.in-Refused.n (sym c.in-Refused.ensures)) c.entered-in-Refused.ensures
+    let k = c.in-Err-hear.refusal in
+    refused-night a.c a.store.now a.sums.now a.d a.night a.y.now (shown_to a.c a.night a.y.now a.shown) 0 (number k) c.in_default.ensures refl
+    (refused_heard a.c.order a.night a.y.now (number k) (sym c.in-Err-hear.ensures)) c.refused-in-Err-hear.ensures

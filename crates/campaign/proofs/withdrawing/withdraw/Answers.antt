@@ -1,5 +1,5 @@
 -- `campaign::withdrawing::withdraw` meets its contract. Assumes nothing.
-use mathlib.Core.Path.{◌≡◌, sym, ◌∙◌}
+use mathlib.Core.Path.{◌≡◌, refl, sym}
 use mathlib.Core.List.{List}
 use Prim.Native.Nat.{ℕ, ◌+◌, ◌*◌, ◌<◌}
 use native.Mathlib.Omega.{arith}
@@ -7,14 +7,16 @@ use lib.IntN.{ℤ, pos, ◌-ℤ◌}
 use Rattle.sums.specs.Lists.{at, table, put, put_at}
 use Rattle.sums.specs.Refusals.{first}
 use Rattle.sums.proofs.First.{refused_with, accepted_with}
+use Rattle.refusals.specs.Causes.{number}
+use Rattle.refusals.proofs.Causes.{never_0}
 use Rattle.register.specs.Register.{P}
 use Rattle.records.specs.Record.{withdrawn, filed}
 use Rattle.campaign.specs.Calls.{slot_of_day, withdraw_checks, withdraw_outcome}
 use Rattle.records.specs.declared.Campaign.{Campaign}
-use Rattle.campaign.specs.declared.Withdrawn.{Withdrawn}
-use Rattle.campaign.proofs.Passing.{Withdraws, withdraws, period_small, slot_fits, sums_small}
+use Rattle.campaign.specs.Calls.{Withdrawn}
+use Rattle.campaign.proofs.Passing.{withdraws, period_small, slot_fits, sums_small}
 use Rattle.campaign.proofs.withdrawing.withdraw.Goals as goal
-use Rattle.campaign.proofs.withdrawing.withdraw.Goals.{After-find-s, Else-refusal-ne0}
+use Rattle.campaign.proofs.withdrawing.withdraw.Goals.{After-find-s}
 
 module _ (c : Campaign) (store sums : List ℤ) (d n : ℕ) (e : n ≡ first (withdraw_checks c store sums d)) where
   refused : (n ≡ 0 → ⊥) → (record { answer = n; campaign = c }, store, sums) ≡ withdraw_outcome c store sums d
@@ -27,40 +29,40 @@ module _ (c : Campaign) (store sums : List ℤ) (d n : ℕ) (e : n ≡ first (wi
   unfolding withdraw_outcome
   accepted z k p f g a b t = rw (a, b, t, f, g) (sym (accepted_with _ _ (withdraw_checks c store sums d) n e z))
 
--- past the checks
-ready : (c : Else-refusal-ne0) → let a = c.args in Withdraws a.c a.store.now a.sums.now a.d
-ready c =
-    let a = c.args in
-    withdraws a.c a.store.now a.sums.now a.d (sym c.withdraw_refusal-refusal.ensures ∙ c.if-refusal-ne0.false)
-
+-- past the checks the slot lies in the record
 slot-inside : (c : After-find-s) → c.find-s.result < c.args.c.capacity
-slot-inside c = rw c.find-s.ensures (ready c.before.before.before).inside
+slot-inside c = let a = c.args in rw c.find-s.ensures (withdraws a.c a.store.now a.sums.now a.d (sym c.in_default.ensures)).inside
 
-pub returns-then-refusal-ne0 : goal.returns-then-refusal-ne0
-returns-then-refusal-ne0 c = let a = c.args in refused a.c a.store.now a.sums.now a.d _ c.withdraw_refusal-refusal.ensures c.if-refusal-ne0.true
-
-pub full_period-requires : goal.full_period-requires
-full_period-requires c = (ready (goal.at.full_period-requires c).Else-refusal-ne0).whole.filed.accepted.shaped.most
-
-pub file-requires : goal.file-requires
-file-requires c = let r = ready (goal.at.file-requires c).Else-refusal-ne0 in (r.day.first, r.day.last, omega (arith, slot-inside (goal.at.file-requires c).After-find-s, r.whole.filed.most))
-
-pub returns : goal.returns
-returns c =
-    let a = c.args in
-    accepted a.c a.store.now a.sums.now a.d _ c.withdraw_refusal-refusal.ensures c.if-refusal-ne0.false c.find-s.result c.full_period.result
-    c.find-s.ensures c.full_period.ensures c.file.ensures c.empty_slot.ensures.0 c.empty_slot.ensures.1
+pub returns-in-Err : goal.returns-in-Err
+returns-in-Err c = let a = c.args in let d = c.in-Err.refusal in refused a.c a.store.now a.sums.now a.d (number d) c.in-Err.ensures (never_0 d)
 
 pub find-s-requires-clause-capacity_bound : goal.find-s-requires-clause-capacity_bound
-find-s-requires-clause-capacity_bound c = ((ready (goal.at.find-s-requires-clause-capacity_bound c).Else-refusal-ne0).whole.filed.most)
+find-s-requires-clause-capacity_bound c = let a = c.args in (withdraws a.c a.store.now a.sums.now a.d (sym c.in_default.ensures)).whole.filed.most
+
+pub full_period-requires : goal.full_period-requires
+full_period-requires c = let a = c.args in (withdraws a.c a.store.now a.sums.now a.d (sym c.in_default.ensures)).whole.filed.accepted.shaped.most
 
 pub empty_slot-requires-clause-s_bound : goal.empty_slot-requires-clause-s_bound
 empty_slot-requires-clause-s_bound c =
-    let r = ready (goal.at.empty_slot-requires-clause-s_bound c).Else-refusal-ne0 in
+    let a = c.args in
+    let r = withdraws a.c a.store.now a.sums.now a.d (sym c.in_default.ensures) in
     let k = slot-inside (goal.at.empty_slot-requires-clause-s_bound c).After-find-s in
     rw c.full_period.ensures (omega (arith, k, r.whole.filed.most), period_small r.whole, slot_fits r.whole _ k)
 
 pub empty_slot-requires-clause-period_in_bounds : goal.empty_slot-requires-clause-period_in_bounds
 empty_slot-requires-clause-period_in_bounds c =
-    let r = ready (goal.at.empty_slot-requires-clause-period_in_bounds c).Else-refusal-ne0 in
+    let a = c.args in
+    let r = withdraws a.c a.store.now a.sums.now a.d (sym c.in_default.ensures) in
     rw c.full_period.ensures (r.whole.sums_long, sums_small r.whole)
+
+pub file-requires : goal.file-requires
+file-requires c =
+    let a = c.args in
+    let r = withdraws a.c a.store.now a.sums.now a.d (sym c.in_default.ensures) in
+    (r.day.first, r.day.last, omega (arith, slot-inside (goal.at.file-requires c).After-find-s, r.whole.filed.most))
+
+pub returns : goal.returns
+returns c =
+    let a = c.args in
+    accepted a.c a.store.now a.sums.now a.d 0 c.in_default.ensures refl c.find-s.result c.full_period.result
+    c.find-s.ensures c.full_period.ensures c.file.ensures c.empty_slot.ensures.0 c.empty_slot.ensures.1

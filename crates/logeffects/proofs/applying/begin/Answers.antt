@@ -10,7 +10,7 @@ use Rattle.refusals.specs.Causes.{Answer}
 use Rattle.rounding.specs.Rounding.{away_from_zero}
 use Rattle.records.specs.declared.Campaign.{Campaign}
 use Rattle.campaign.specs.Calls.{start_outcome}
-use Rattle.campaign.specs.declared.Started.{Started}
+use Rattle.campaign.specs.Calls.{Started}
 use Rattle.logeffects.specs.Book.{log_start_checks, over, started_by, began_outcome}
 use Rattle.logeffects.specs.declared.Applied.{Applied}
 use Rattle.logeffects.proofs.applying.begin.Goals as goal

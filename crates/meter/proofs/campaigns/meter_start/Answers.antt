@@ -10,7 +10,7 @@ use Rattle.sums.proofs.First.{refused_with}
 use Rattle.register.specs.Calls.{told}
 use Rattle.register.proofs.HowShort.{period-told, passed_on}
 use Rattle.records.specs.declared.Campaign.{Campaign}
-use Rattle.campaign.specs.declared.Started.{Started}
+use Rattle.campaign.specs.Calls.{Started}
 use Rattle.campaign.specs.Calls.{start_checks, start_outcome}
 use Rattle.campaign.proofs.Passing.{start_tells}
 use Rattle.meter.specs.Doors.{tables_short, record_of, start_door_checks, start_door}

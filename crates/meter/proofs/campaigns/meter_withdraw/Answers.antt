@@ -6,7 +6,7 @@ use Prim.Native.Nat.{ℕ}
 use lib.IntN.{ℤ}
 use Rattle.sums.specs.Lists.{put}
 use Rattle.records.specs.declared.Campaign.{Campaign}
-use Rattle.campaign.specs.declared.Withdrawn.{Withdrawn}
+use Rattle.campaign.specs.Calls.{Withdrawn}
 use Rattle.campaign.specs.Calls.{withdraw_outcome}
 use Rattle.meter.specs.Doors.{tables_short, record_of, withdrawn_out, withdraw_door}
 use Rattle.meter.proofs.Opening.{shut, through}

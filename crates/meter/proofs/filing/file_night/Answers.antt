@@ -9,7 +9,7 @@ use Rattle.sums.specs.Refusals.{meant}
 use Rattle.nights.specs.declared.Night.{Night}
 use Rattle.records.specs.declared.Campaign.{Campaign}
 use Rattle.campaign.specs.declared.Entered.{Entered}
-use Rattle.campaign.specs.declared.Shown.{Shown}
+use Rattle.campaign.specs.Calls.{Shown}
 use Rattle.campaign.specs.Calls.{file_outcome, shown_to, verdict_means}
 use Rattle.meter.specs.Doors.{tables_short, record_of, entered_out, file_door}
 use Rattle.meter.proofs.Opening.{shut, through}

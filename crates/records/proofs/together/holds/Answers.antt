@@ -1,8 +1,9 @@
 -- `records::together::holds` meets its contract: a test that fails refutes holding together, and all of them make it. Assumes nothing.
 use mathlib.Core.Path.{◌≡◌, sym, ◌∙◌}
 use mathlib.Core.Bool.{true, true≢false}
-use borrow.Author.Tests.{eq-eqb}
+use borrow.Author.Tests.{eqb-false}
 use native.Mathlib.Omega.{arith}
+use Rattle.register.specs.Calls.{taps_answer}
 use Rattle.register.proofs.Judged.{accepted_exactly}
 use Rattle.records.specs.Record.{edition_holds}
 use Rattle.records.proofs.Holding.{Filed, filed_by, filed_tests_lem, holds-together}
@@ -18,13 +19,13 @@ edition c = sym c.is_edition.ensures ∙ c.if-not-is_edition.false
 filed : (c : Else-not-filed_holds) → Filed c.args.c
 filed c =
     let a = c.args in
-    filed_by a.c (eq-eqb _ 0 (sym c.taps_refusal.ensures ∙ c.if-taps_refusal-ne0.false))
+    filed_by a.c (sym c.accepts.ensures ∙ c.if-not-accepts.false)
     (sym c.filed_holds.ensures ∙ c.if-not-filed_holds.false)
 
-pub returns-then-taps_refusal-ne0 : goal.returns-then-taps_refusal-ne0
-returns-then-taps_refusal-ne0 c =
+pub returns-then-not-accepts : goal.returns-then-not-accepts
+returns-then-not-accepts c =
     let a = c.args in
-    does_not a.c a.store.now a.sums.now (λ t. c.if-taps_refusal-ne0.true (c.taps_refusal.ensures ∙ (accepted_exactly a.c.order a.c.taps).1 t.filed.accepted))
+    does_not a.c a.store.now a.sums.now (λ t. eqb-false (taps_answer a.c.order a.c.taps) 0 (sym c.accepts.ensures ∙ c.if-not-accepts.true) ((accepted_exactly a.c.order a.c.taps).1 t.filed.accepted))
 
 pub returns-then-not-is_edition : goal.returns-then-not-is_edition
 returns-then-not-is_edition c =
