@@ -1,6 +1,6 @@
 -- What a campaign says: counts, response and summary, each by one function from all that is handed in to all that is handed back: document 01,
 -- "The campaign", "Refusal numbers", "Order of checks" and "Room", and document 02, requests 1, 7 and 9. Assumes nothing.
-use Rattle.std.specs.Prelude.{List, [], ◌∷◌, Bool, cond, ◌||◌, ℕ, ◌+◌, ◌*◌, eqb, ltb, Float, ℤ, pos, nat_abs, length}
+use Rattle.std.specs.Prelude.{List, [], ◌∷◌, Bool, cond, ◌||◌, ℕ, ◌+◌, ◌*◌, eqb, ltb, Float, ℤ, pos, nat_abs, length, Result, Ok, Err}
 use Rattle.std.specs.Float.{binary64}
 use Rattle.std.specs.Float.Ieee.{of_int, div}
 use Rattle.sums.specs.Lists.{at, table, put}
@@ -13,8 +13,6 @@ use Rattle.samples.specs.Samples.{work_short, room_short, cleared_wide, cleared_
 use Rattle.records.specs.Record.{unseen, standing, overloaded, dead, withdrawn, days_in, periods_standing, apart}
 use Rattle.records.specs.declared.Campaign.{Campaign}
 use Rattle.trend.specs.declared.Tally.{Tally}
-use Rattle.trend.specs.declared.Counts.{Counts}
-use Rattle.trend.specs.declared.Counts.TheVariants as counts
 use Rattle.trend.specs.declared.Extremes.{Extremes}
 use Rattle.trend.specs.declared.Levels.{Levels}
 use Rattle.trend.specs.declared.Summary.{Summary}
@@ -32,8 +30,8 @@ tally c =
       withdrawn = days_in c withdrawn;
     }
 
-unfoldable pub counts_outcome : Campaign → List ℤ → List ℤ → Counts
-counts_outcome c store sums = outcome ((15, apart c store sums) ∷ []) counts.Refused (counts.Counted (tally c))
+unfoldable pub counts_outcome : Campaign → List ℤ → List ℤ → Result Tally ℕ
+counts_outcome c store sums = outcome ((15, apart c store sums) ∷ []) Err (Ok (tally c))
 
 -- ---- response: 15, 6, 14; the answer, r, the mean, the wide room and the tags
 
@@ -104,14 +102,6 @@ summary_outcome c store sums room tags =
     ))
 
 -- ---- this paper's number for each case of an answer, 0 where it is accepted, and its values
-
--- the days in each state
-abbrev pub counts_means : Counts → Meaning Tally
-counts_means (counts.Counted t) = accepts t
-counts_means (counts.Refused n) = refuses n
-
-abbrev pub counts_number : Counts → ℕ
-counts_number c = (counts_means c).0
 
 -- whether some day stands, 1 or 0; and the levels, given where one does
 abbrev pub summary_means : Summary → Meaning (ℕ × Levels)

@@ -1,6 +1,7 @@
 // The answer of response.
 ghost use Rattle.std.specs.Prelude.{◌≡◌, [], ◌∷◌, eqb};
 ghost use Rattle.sums.specs.Refusals.{first};
+ghost use Rattle.refusals.specs.Causes.{answer};
 ghost use Rattle.register.specs.Register.{P};
 ghost use Rattle.records.specs.Record.{standing, days_in, apart};
 ghost use Rattle.trend.specs.Calls.{answer_short, response_outcome};
@@ -9,12 +10,13 @@ use crate::dividing::divisor_of;
 use crate::rooms::answer_short;
 use records::together::holds;
 use records::{Campaign, STANDING};
+use refusals::Refusal;
 use register::shift::full_period;
 use response::of_sums::turn_sums;
 use rounding::means::write_means;
 
-// The first of 15, 6, 14 that refuses a response into so much room, and 0 where none does.
-fn response_refusal(
+// The checks 15, 6 and 14 of a response into so much room.
+fn check_response(
     c: Campaign,
     store: &[i32],
     sums: &[i64],
@@ -22,21 +24,21 @@ fn response_refusal(
     mean: usize,
     room: usize,
     tags: usize,
-) -> u32
-    ensures { result ≡ first ((15, apart c store.now sums.now)
+) -> Result<(), Refusal>
+    ensures { answer result ≡ first ((15, apart c store.now sums.now)
         ∷ (6, answer_short (P c.order) r mean room tags)
         ∷ (14, eqb (days_in c standing) 0) ∷ []) }
 {
     if !holds(c, store, sums) {
-        return 15;
+        return Err(Refusal::Apart);
     }
     if answer_short(full_period(c.order) as usize, r, mean, room, tags) {
-        return 6;
+        return Err(Refusal::Room);
     }
     if c.days_in(STANDING) == 0 {
-        return 14;
+        return Err(Refusal::NothingStands);
     }
-    0
+    Ok(())
 }
 
 // The response worked from the sums, and the mean over the periods standing, refusing 15, 6, 14.
@@ -48,17 +50,14 @@ pub fn response(
     mean: &mut [i32],
     room: &mut [i64],
     tags: &mut [u16],
-) -> u32
-    ensures { (result, r.new, mean.new, room.new, tags.new)
+) -> Result<(), Refusal>
+    ensures { (answer result, r.new, mean.new, room.new, tags.new)
         ≡ response_outcome c store.now sums.now r.old mean.old room.old tags.old }
 {
-    let refusal = response_refusal(c, store, sums, r.len(), mean.len(), room.len(), tags.len());
-    if refusal != 0 {
-        return refusal;
-    }
+    check_response(c, store, sums, r.len(), mean.len(), room.len(), tags.len())?;
     let period = full_period(c.order) as usize;
     let divisor = divisor_of(&c);
     turn_sums(c.order, c.taps, sums, r, room, tags);
     write_means(c.edition, r, mean, period, divisor);
-    0
+    Ok(())
 }

@@ -1,10 +1,12 @@
 // The answer of counts.
 ghost use Rattle.std.specs.Prelude.{◌≡◌};
+ghost use Rattle.refusals.specs.Causes.{numbered};
 ghost use Rattle.trend.specs.Calls.{tally, counts_outcome};
 
-use crate::{Counts, Tally};
+use crate::Tally;
 use records::together::holds;
 use records::{Campaign, DEAD, OVERLOADED, STANDING, UNSEEN, WITHDRAWN};
+use refusals::Refusal;
 
 // The days in each of the five states.
 fn tally_of(c: Campaign) -> Tally
@@ -20,11 +22,11 @@ fn tally_of(c: Campaign) -> Tally
 }
 
 // The days in each of the five states, refusing 15.
-pub fn counts(c: Campaign, store: &[i32], sums: &[i64]) -> Counts
-    ensures { result ≡ counts_outcome c store.now sums.now }
+pub fn counts(c: Campaign, store: &[i32], sums: &[i64]) -> Result<Tally, Refusal>
+    ensures { numbered result ≡ counts_outcome c store.now sums.now }
 {
     if !holds(c, store, sums) {
-        return Counts::Refused(15);
+        return Err(Refusal::Apart);
     }
-    Counts::Counted(tally_of(c))
+    Ok(tally_of(c))
 }

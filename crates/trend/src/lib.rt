@@ -18,13 +18,6 @@ pub struct Tally {
     pub withdrawn: u32,
 }
 
-#[derive(Clone, Copy)]
-pub enum Counts {
-    Counted(Tally),
-    // The refusal's number.
-    Refused(u32),
-}
-
 // The highest r, the lowest r and r at the peak.
 #[derive(Clone, Copy)]
 pub struct Extremes {
@@ -41,10 +34,10 @@ pub struct Levels {
     pub peak: f64,
 }
 
+// Document 01 names this form: nothing, the levels, or a refusal's number.
 #[derive(Clone, Copy)]
 pub enum Summary {
     Nothing,
     Measured(Levels),
-    // The refusal's number.
     Refused(u32),
 }

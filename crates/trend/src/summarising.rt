@@ -1,6 +1,7 @@
 // The answer of summary.
 ghost use Rattle.std.specs.Prelude.{◌≡◌, [], ◌∷◌, ◌^◌, ◌<◌, nat_abs};
 ghost use Rattle.sums.specs.Refusals.{first};
+ghost use Rattle.refusals.specs.Causes.{answer};
 ghost use Rattle.register.specs.Register.{P};
 ghost use Rattle.samples.specs.Samples.{work_short};
 ghost use Rattle.records.specs.Record.{apart};
@@ -11,6 +12,7 @@ use crate::measuring::{level_of, measure};
 use crate::{Extremes, Levels, Summary};
 use records::together::holds;
 use records::{Campaign, STANDING};
+use refusals::Refusal;
 use register::shift::full_period;
 use samples::lengths::work_short;
 
@@ -27,18 +29,24 @@ fn levels_of(e: Extremes, d: u64) -> Levels
     }
 }
 
-// The first of 15, 6 that refuses a summary with so much room, and 0 where none does.
-fn summary_refusal(c: Campaign, store: &[i32], sums: &[i64], room: usize, tags: usize) -> u32
-    ensures { result ≡ first ((15, apart c store.now sums.now)
+// The checks 15 and 6 of a summary with so much room.
+fn check_summary(
+    c: Campaign,
+    store: &[i32],
+    sums: &[i64],
+    room: usize,
+    tags: usize,
+) -> Result<(), Refusal>
+    ensures { answer result ≡ first ((15, apart c store.now sums.now)
         ∷ (6, work_short (P c.order) room tags) ∷ []) }
 {
     if !holds(c, store, sums) {
-        return 15;
+        return Err(Refusal::Apart);
     }
     if work_short(full_period(c.order) as usize, room, tags) {
-        return 6;
+        return Err(Refusal::Room);
     }
-    0
+    Ok(())
 }
 
 // Nothing where no day stands, else the levels, refusing 15, 6.
@@ -52,9 +60,8 @@ pub fn summary(
     ensures { (result, room.new, tags.new)
         ≡ summary_outcome c store.now sums.now room.old tags.old }
 {
-    let refusal = summary_refusal(c, store, sums, room.len(), tags.len());
-    if refusal != 0 {
-        return Summary::Refused(refusal);
+    if let Err(refusal) = check_summary(c, store, sums, room.len(), tags.len()) {
+        return Summary::Refused(refusal.number());
     }
     if c.days_in(STANDING) == 0 {
         return Summary::Nothing;

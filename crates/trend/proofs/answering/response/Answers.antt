@@ -1,5 +1,5 @@
 -- `trend::answering::response` meets its contract. Assumes nothing.
-use mathlib.Core.Path.{◌≡◌, sym, ap, ap₂, ◌∙◌}
+use mathlib.Core.Path.{◌≡◌, refl, sym, ap, ap₂, ◌∙◌}
 use mathlib.Core.List.{List}
 use Prim.Native.Nat.{ℕ, ◌+◌}
 use native.Mathlib.Omega.{arith}
@@ -8,6 +8,8 @@ use Rattle.sums.specs.Lists.{at, table, put}
 use Rattle.sums.specs.Refusals.{first}
 use Rattle.sums.proofs.First.{refused_with, accepted_with}
 use Rattle.sums.proofs.Tables.{at-put, table_ext}
+use Rattle.refusals.specs.Causes.{number}
+use Rattle.refusals.proofs.Causes.{never_0, exits}
 use Rattle.register.specs.Register.{P}
 use Rattle.samples.specs.Samples.{sample_out, cleared_wide, cleared_tags}
 use Rattle.rounding.specs.Rounding.{rounded}
@@ -17,7 +19,7 @@ use Rattle.trend.specs.Calls.{response_checks, worked, mean_at, response_outcome
 use Rattle.trend.proofs.Bounds.{divisor-some, divisor_small, mean_fits}
 use Rattle.trend.proofs.Passing.{Answers, answers}
 use Rattle.trend.proofs.answering.response.Goals as goal
-use Rattle.trend.proofs.answering.response.Goals.{After-write_means, Else-refusal-ne0}
+use Rattle.trend.proofs.answering.response.Goals.{After-write_means, In_ok-check_response}
 
 module _ (c : Campaign) (store sums r mean room : List ℤ) (tags : List ℕ) (n : ℕ) (e : n ≡ first (response_checks c store sums r mean room tags)) where
   refused : (n ≡ 0 → ⊥) → (n, r, mean, room, tags) ≡ response_outcome c store sums r mean room tags
@@ -31,8 +33,8 @@ module _ (c : Campaign) (store sums r mean room : List ℤ) (tags : List ℕ) (n
   accepted z f g h k = rw (f, g, h, k) (sym (accepted_with _ _ (response_checks c store sums r mean room tags) n e z))
 
 -- past the checks
-ready : (c : Else-refusal-ne0) → let a = c.args in Answers a.c a.store.now a.sums.now a.r.now a.mean.now a.room.now a.tags.now
-ready c = let a = c.args in answers a.c a.store.now a.sums.now a.r.now a.mean.now a.room.now a.tags.now (sym c.response_refusal-refusal.ensures ∙ c.if-refusal-ne0.false)
+ready : (c : In_ok-check_response) → let a = c.args in Answers a.c a.store.now a.sums.now a.r.now a.mean.now a.room.now a.tags.now
+ready c = let a = c.args in answers a.c a.store.now a.sums.now a.r.now a.mean.now a.room.now a.tags.now (sym c.in_ok-check_response.ensures)
 
 -- the means are of what was worked
 mean-is : (c : After-write_means) → let a = c.args in c.write_means.new.out ≡ put (table (P a.c.order) (mean_at a.c a.sums.now)) a.mean.now
@@ -45,41 +47,45 @@ mean-is c =
     (ap (λ m. table m (λ k. rounded a.c.edition (at c.turn_sums.new.out k) d.result)) p.ensures
     ∙ table_ext (P a.c.order) (λ k l. ap₂ (rounded a.c.edition) (ap (λ v. at v k) c.turn_sums.ensures.0 ∙ at-put (P a.c.order) (worked a.c a.sums.now) a.r.now k (pos 0) l) d.ensures))
 
-pub returns-then-refusal-ne0 : goal.returns-then-refusal-ne0
-returns-then-refusal-ne0 c = let a = c.args in refused a.c a.store.now a.sums.now a.r.now a.mean.now a.room.now a.tags.now _ c.response_refusal-refusal.ensures c.if-refusal-ne0.true
+pub returns-in_err-check_response : goal.returns-in_err-check_response
+returns-in_err-check_response c =
+    let a = c.args in
+    let d = c.in_err-check_response.field-0.0 in
+    rw (exits c.from_residual.result d c.from_residual.ensures.1)
+    (refused a.c a.store.now a.sums.now a.r.now a.mean.now a.room.now a.tags.now (number d) c.in_err-check_response.ensures (never_0 d))
 
 pub full_period-period-requires : goal.full_period-period-requires
 full_period-period-requires c = (ready c).whole.filed.accepted.shaped.most
 
 pub divisor_of-divisor-requires : goal.divisor_of-divisor-requires
 divisor_of-divisor-requires c =
-    let f = (ready (goal.at.divisor_of-divisor-requires c).Else-refusal-ne0).whole.filed in
+    let f = (ready (goal.at.divisor_of-divisor-requires c).In_ok-check_response).whole.filed in
     (f.accepted.shaped.most, f.most, divisor_small _ f)
 
 pub returns : goal.returns
 returns c =
     let a = c.args in
-    accepted a.c a.store.now a.sums.now a.r.now a.mean.now a.room.now a.tags.now _ c.response_refusal-refusal.ensures c.if-refusal-ne0.false c.turn_sums.ensures.0 (mean-is (goal.at.returns c).After-write_means) c.turn_sums.ensures.1 c.turn_sums.ensures.2
+    accepted a.c a.store.now a.sums.now a.r.now a.mean.now a.room.now a.tags.now 0 c.in_ok-check_response.ensures refl c.turn_sums.ensures.0 (mean-is (goal.at.returns c).After-write_means) c.turn_sums.ensures.1 c.turn_sums.ensures.2
 
 pub turn_sums-requires-clause-accepted : goal.turn_sums-requires-clause-accepted
 turn_sums-requires-clause-accepted c =
     let a = c.args in
-    let r = ready (goal.at.turn_sums-requires-clause-accepted c).Else-refusal-ne0 in ((r.whole.filed.accepted, sum_small a.c a.store.now a.sums.now r.whole))
+    let r = ready (goal.at.turn_sums-requires-clause-accepted c).In_ok-check_response in ((r.whole.filed.accepted, sum_small a.c a.store.now a.sums.now r.whole))
 
 pub turn_sums-requires-clause-order_in_bounds : goal.turn_sums-requires-clause-order_in_bounds
 turn_sums-requires-clause-order_in_bounds c =
     let a = c.args in
-    let r = ready (goal.at.turn_sums-requires-clause-order_in_bounds c).Else-refusal-ne0 in ((r.whole.sums_long, r.r_long, r.room_long, r.tags_long))
+    let r = ready (goal.at.turn_sums-requires-clause-order_in_bounds c).In_ok-check_response in ((r.whole.sums_long, r.r_long, r.room_long, r.tags_long))
 
 pub write_means-requires-clause-period_in_bounds : goal.write_means-requires-clause-period_in_bounds
 write_means-requires-clause-period_in_bounds c =
     let a = c.args in
-    let r = ready (goal.at.write_means-requires-clause-period_in_bounds c).Else-refusal-ne0 in
+    let r = ready (goal.at.write_means-requires-clause-period_in_bounds c).In_ok-check_response in
     ((omega (arith, c.full_period-period.ensures, c.turn_sums.auto.out, r.r_long), omega (arith, c.full_period-period.ensures, r.mean_long), omega (arith, c.divisor_of-divisor.ensures, divisor-some a.c r.whole.filed r.some)))
 
 pub write_means-requires-clause-by_index : goal.write_means-requires-clause-by_index
 write_means-requires-clause-by_index c =
     let a = c.args in
-    let r = ready (goal.at.write_means-requires-clause-by_index c).Else-refusal-ne0 in
+    let r = ready (goal.at.write_means-requires-clause-by_index c).In_ok-check_response in
     (λ k l.
     ap₂ (λ z n. sample_out (rounded a.c.edition z n)) (ap (λ v. at v k) c.turn_sums.ensures.0 ∙ at-put (P a.c.order) (worked a.c a.sums.now) a.r.now k (pos 0) (omega (arith, c.full_period-period.ensures))) c.divisor_of-divisor.ensures ∙ mean_fits a.c a.store.now a.sums.now r.whole r.some k)

@@ -1,5 +1,5 @@
 -- `trend::summarising::summary` meets its contract. Assumes nothing.
-use mathlib.Core.Path.{◌≡◌, sym, ap, ap₂, ◌∙◌}
+use mathlib.Core.Path.{◌≡◌, refl, sym, ap, ap₂, ◌∙◌}
 use mathlib.Core.Bool.{cond}
 use mathlib.Core.List.{List}
 use Prim.Native.Nat.{ℕ, ◌+◌}
@@ -9,6 +9,8 @@ use lib.Dec.{eqb}
 use lib.IntN.{ℤ, nat_abs}
 use Rattle.sums.specs.Refusals.{first}
 use Rattle.sums.proofs.First.{refused_with, accepted_with}
+use Rattle.refusals.specs.Causes.{number}
+use Rattle.refusals.proofs.Causes.{never_0}
 use Rattle.register.specs.Register.{P}
 use Rattle.samples.specs.Samples.{cleared_wide, cleared_tags}
 use Rattle.records.specs.Record.{standing, days_in}
@@ -22,7 +24,7 @@ use Rattle.trend.specs.declared.Summary.TheVariants as summary
 use Rattle.trend.proofs.Bounds.{divisor-some, divisor_small, extremes_small}
 use Rattle.trend.proofs.Passing.{Measures, measures}
 use Rattle.trend.proofs.summarising.summary.Goals as goal
-use Rattle.trend.proofs.summarising.summary.Goals.{After-days_in, Else-days_in-eq0, Else-refusal-ne0}
+use Rattle.trend.proofs.summarising.summary.Goals.{After-days_in, Else-days_in-eq0, In_default}
 
 module _ (c : Campaign) (store sums room : List ℤ) (tags : List ℕ) (n : ℕ) (e : n ≡ first (summary_checks c store sums room tags)) where
   -- what is handed back where a day stands, and where none does
@@ -52,8 +54,8 @@ abbrev over : Extremes → ℕ → Levels
 over e d = record { highest = level e.highest d; lowest = level e.lowest d; peak = level e.peak d }
 
 -- past the checks
-ready : (c : Else-refusal-ne0) → let a = c.args in Measures a.c a.store.now a.sums.now a.room.now a.tags.now
-ready c = let a = c.args in measures a.c a.store.now a.sums.now a.room.now a.tags.now (sym c.summary_refusal-refusal.ensures ∙ c.if-refusal-ne0.false)
+ready : (c : In_default) → let a = c.args in Measures a.c a.store.now a.sums.now a.room.now a.tags.now
+ready c = let a = c.args in measures a.c a.store.now a.sums.now a.room.now a.tags.now (sym c.in_default.ensures)
 
 standing-are : (c : After-days_in) → c.days_in.result ≡ days_in c.args.c standing
 standing-are c = c.days_in.ensures
@@ -61,39 +63,43 @@ standing-are c = c.days_in.ensures
 some : (c : Else-days_in-eq0) → days_in c.args.c standing ≡ 0 → ⊥
 some c z = c.if-days_in-eq0.false (c.days_in.ensures ∙ z)
 
-pub returns-then-refusal-ne0 : goal.returns-then-refusal-ne0
-returns-then-refusal-ne0 c = let a = c.args in refused a.c a.store.now a.sums.now a.room.now a.tags.now _ c.summary_refusal-refusal.ensures c.if-refusal-ne0.true
+pub returns-in-Err : goal.returns-in-Err
+returns-in-Err c =
+    let a = c.args in
+    let d = c.in-Err.refusal in
+    ap (λ n. (summary.Refused n, a.room.now, a.tags.now)) c.number.ensures
+    ∙ refused a.c a.store.now a.sums.now a.room.now a.tags.now (number d) c.in-Err.ensures (never_0 d)
 
 pub returns-then-days_in-eq0 : goal.returns-then-days_in-eq0
 returns-then-days_in-eq0 c =
     let a = c.args in
-    nothing a.c a.store.now a.sums.now a.room.now a.tags.now _ c.summary_refusal-refusal.ensures c.if-refusal-ne0.false (sym (standing-are (goal.at.returns-then-days_in-eq0 c).After-days_in) ∙ c.if-days_in-eq0.true)
+    nothing a.c a.store.now a.sums.now a.room.now a.tags.now 0 c.in_default.ensures refl (sym (standing-are (goal.at.returns-then-days_in-eq0 c).After-days_in) ∙ c.if-days_in-eq0.true)
 
 pub divisor_of-divisor-requires : goal.divisor_of-divisor-requires
 divisor_of-divisor-requires c =
-    let f = (ready (goal.at.divisor_of-divisor-requires c).Else-refusal-ne0).whole.filed in
+    let f = (ready (goal.at.divisor_of-divisor-requires c).In_default).whole.filed in
     (f.accepted.shaped.most, f.most, divisor_small _ f)
 
 pub returns : goal.returns
 returns c =
     let a = c.args in
-    measured a.c a.store.now a.sums.now a.room.now a.tags.now _ c.summary_refusal-refusal.ensures c.if-refusal-ne0.false (some (goal.at.returns c).Else-days_in-eq0)
+    measured a.c a.store.now a.sums.now a.room.now a.tags.now 0 c.in_default.ensures refl (some (goal.at.returns c).Else-days_in-eq0)
     (c.levels_of.ensures ∙ ap₂ over c.measure-extremes.ensures.0 c.divisor_of-divisor.ensures) c.measure-extremes.ensures.1 c.measure-extremes.ensures.2
 
 pub measure-extremes-requires-clause-accepted : goal.measure-extremes-requires-clause-accepted
 measure-extremes-requires-clause-accepted c =
     let a = c.args in
-    let r = ready (goal.at.measure-extremes-requires-clause-accepted c).Else-refusal-ne0 in ((r.whole.filed.accepted, sum_small a.c a.store.now a.sums.now r.whole))
+    let r = ready (goal.at.measure-extremes-requires-clause-accepted c).In_default in ((r.whole.filed.accepted, sum_small a.c a.store.now a.sums.now r.whole))
 
 pub measure-extremes-requires-clause-order_in_bounds : goal.measure-extremes-requires-clause-order_in_bounds
 measure-extremes-requires-clause-order_in_bounds c =
     let a = c.args in
-    let r = ready (goal.at.measure-extremes-requires-clause-order_in_bounds c).Else-refusal-ne0 in ((r.whole.sums_long, r.room_long, r.tags_long))
+    let r = ready (goal.at.measure-extremes-requires-clause-order_in_bounds c).In_default in ((r.whole.sums_long, r.room_long, r.tags_long))
 
 pub levels_of-requires-clause-highest_bound : goal.levels_of-requires-clause-highest_bound
 levels_of-requires-clause-highest_bound c =
     let a = c.args in
-    let r = ready (goal.at.levels_of-requires-clause-highest_bound c).Else-refusal-ne0 in
+    let r = ready (goal.at.levels_of-requires-clause-highest_bound c).In_default in
     let s = extremes_small a.c a.store.now a.sums.now r.whole in
     let e = c.measure-extremes.ensures.0 in ((
       omega (arith, ap (λ x. nat_abs x.highest) e, s.0),
@@ -104,6 +110,6 @@ levels_of-requires-clause-highest_bound c =
 pub levels_of-requires-clause-d_nonzero : goal.levels_of-requires-clause-d_nonzero
 levels_of-requires-clause-d_nonzero c =
     let a = c.args in
-    let r = ready (goal.at.levels_of-requires-clause-d_nonzero c).Else-refusal-ne0 in
+    let r = ready (goal.at.levels_of-requires-clause-d_nonzero c).In_default in
     let s = extremes_small a.c a.store.now a.sums.now r.whole in
     let e = c.measure-extremes.ensures.0 in ((omega (arith, c.divisor_of-divisor.ensures, divisor-some a.c r.whole.filed (some (goal.at.levels_of-requires-clause-d_nonzero c).Else-days_in-eq0)), omega (arith, c.divisor_of-divisor.ensures, divisor_small a.c r.whole.filed)))
