@@ -4,9 +4,8 @@ use mathlib.Core.Path.{◌≡◌, refl, sym, ap, ◌∙◌}
 use Prim.Native.Nat.{ℕ, zero, suc, ◌+◌, ◌*◌, ◌/◌, ◌^◌, ◌≤◌, ◌<◌}
 use native.Mathlib.Nat.{mul_comm, mul_assoc, mul-add, add-mul, mul-one, one-mul, mul_right_comm, le_of_lt, suc-mul, mul-pos, mul-le-mul, mul-le-mul_left, mul-le-mul_right, le_of_mul-le-mul_right, lt_of_mul-lt-mul_right, div-mul-le_self, mul-div-le, lt-mul-div-succ, div-eq_of_lt-le, div-div-eq-div-mul, zero-mul, pow-succ'}
 use native.Mathlib.Numerals.{add-one}
-use native.Mathlib.Decide.{dec_lt}
 use native.Mathlib.Omega.{arith}
-use borrow.Author.Tests.{le-leb, lt-leb}
+use borrow.Author.Tests.{le-leb}
 use lib.Pow.{pow_pos, pow_mono}
 use Rattle.rounding.specs.Rounding.{nearest}
 use Rattle.rounding.specs.Halving.{Split, Exact, reciprocal as reciprocal_of}
@@ -117,9 +116,3 @@ module _ (d rest times : ℕ) (e : rest * 2 ^ times ≡ d) (p : 0 < d) where
   -- the reciprocal of so few
   pub split_few : (most : ℕ) → most ≤ 362 → rest ≤ most → times ≤ 26 → Split most d (times + 1) (reciprocal_of rest)
   split_few most l h low = rw (le-leb rest 362 (omega arith)) (few_times most h low)
-
-  pub split : times ≤ 26 → (reciprocal_of rest ≡ 0 → ⊥) → Split 362 d (times + 1) (reciprocal_of rest)
-  split low some = elim (dec_lt rest 363) [
-    | yes h ↦ split_few 362 (omega arith) (omega arith) low
-    | no h ↦ absurd (some (rw (lt-leb rest 362 (omega arith)) refl))
-  ]

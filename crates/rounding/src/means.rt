@@ -1,5 +1,5 @@
 // A quotient rounded to nearest, a half where the edition has it: the sizes are divided and the sign is put back, or all quotients are raised above zero.
-ghost use Rattle.std.specs.Prelude.{◌≡◌, true, false, ◌&&◌, ℕ, ◌+◌, ◌*◌, ◌/◌, ◌≤◌, ◌<◌, ◌^◌, eqb, leb, pos, nat_abs, length};
+ghost use Rattle.std.specs.Prelude.{◌≡◌, true, false, ◌&&◌, ℕ, ◌+◌, ◌*◌, ◌/◌, ◌≤◌, ◌<◌, ◌^◌, eqb, leb, ℤ, pos, nat_abs, length};
 ghost use Rattle.std.specs.Int.Signed.{non_neg};
 ghost use Rattle.sums.specs.Lists.{at, table, put};
 ghost use Rattle.samples.specs.Samples.{sample_out};
@@ -64,17 +64,6 @@ fn near_by(edition: u32, a: u64, d: u64, shift: u32, m: u64) -> u64
     quotient_by(edition, 2 * a + d, d, shift, m)
 }
 
-// The same, by division where m is 0.
-fn near_as(edition: u32, a: u64, d: u64, shift: u32, m: u64) -> u64
-    requires { (0 < d) × (nearest a d ≤ 2 ^ 23 + 1) × ((m ≡ 0 → ⊥) → Split 362 d shift m) }
-    ensures { result ≡ nearest_in edition a d }
-{
-    if m == 0 {
-        return near(edition, a, d);
-    }
-    near_by(edition, a, d, shift, m)
-}
-
 // n with the sign of z.
 fn with_sign(z: i64, n: u64) -> i64
     requires { n < 2 ^ 63 }
@@ -93,57 +82,47 @@ fn raise(r: i64, d: u64) -> u64
 }
 
 // r / d to the nearest even at a half, where it is a sample. Raised, no quotient is below zero, and so none needs its sign put back.
-fn even_by(r: i64, d: u64, shift: u32, m: u64) -> i64
+fn mean_raised(r: i64, d: u64, shift: u32, m: u64) -> i32
     requires { (Split 255 d shift m) × (sample_out (rounded to_even r d) ≡ false) }
     ensures { result ≡ rounded to_even r d }
 {
     let x = raise(r, d);
-    quotient_by(TO_EVEN, x, d, shift, m) as i64 - RAISED
+    (quotient_by(TO_EVEN, x, d, shift, m) as i64 - RAISED) as i32
 }
 
-// r / d to the nearest, where it is a sample: by the shift and the product that are handed in, raised or not.
-fn mean_as(edition: u32, r: i64, d: u64, shift: u32, m: u64, raised: bool) -> i64
-    requires d_nonzero { (0 < d) × (sample_out (rounded edition r d) ≡ false) × ((m ≡ 0 → ⊥) → Split 362 d shift m) }
-    requires edition_value { raised ≡ true → (edition ≡ to_even) × Split 255 d shift m }
+// r / d to the nearest, where it is a sample, by a product.
+fn mean_by_product(edition: u32, r: i64, d: u64, shift: u32, m: u64) -> i32
+    requires { (Split 362 d shift m) × (sample_out (rounded edition r d) ≡ false) }
     ensures { result ≡ rounded edition r d }
 {
-    if raised {
-        return even_by(r, d, shift, m);
-    }
-    with_sign(r, near_as(edition, r.unsigned_abs(), d, shift, m))
+    with_sign(r, near_by(edition, r.unsigned_abs(), d, shift, m)) as i32
 }
 
-// The mean of each of the first `period`, at its place.
-fn write_each(
-    edition: u32,
-    r: &[i64],
-    out: &mut [i32],
-    period: usize,
-    divisor: u64,
-    shift: u32,
-    m: u64,
-    raised: bool,
-)
-    requires period_in_bounds { (period ≤ length r.now) × (period ≤ length out.old) × (0 < divisor) × ((m ≡ 0 → ⊥) → Split 362 divisor shift m) }
-    requires edition_value { raised ≡ true → (edition ≡ to_even) × Split 255 divisor shift m }
-    requires by_index { (k : ℕ) → k < period → sample_out (rounded edition (at r.now k) divisor) ≡ false }
-    ensures { out.new ≡ put (table period (λ k. rounded edition (at r.now k) divisor)) out.old }
+// The same, by division.
+fn mean_by_division(edition: u32, r: i64, d: u64) -> i32
+    requires { (0 < d) × (sample_out (rounded edition r d) ≡ false) }
+    ensures { result ≡ rounded edition r d }
+{
+    with_sign(r, near(edition, r.unsigned_abs(), d)) as i32
+}
+
+// What is made of each of the first `period`, at its place.
+fn write_each<F: Fn(i64) -> i32>(r: &[i64], out: &mut [i32], period: usize, mean: F)
+    requires within { (period ≤ length r.now) × (period ≤ length out.old) }
+    requires by_index { (k : ℕ) → k < period → F.pre mean (at r.now k) }
+    ensures { (f : ℕ → ℤ) → ((k : ℕ) (z : ℤ) → k < period → F.post mean (at r.now k) z → z ≡ f k) → out.new ≡ put (table period f) out.old }
 {
     for k in 0..period {
-        out[k] = mean_as(edition, r[k], divisor, shift, m, raised) as i32;
+        out[k] = mean(r[k]);
     }
 }
 
-// What a quotient by this many is a product by, over 2^40: 0 where they are more than 362.
+// What a quotient by this many, 362 at most, is a product by, over 2^40.
 fn reciprocal(rest: u64) -> u64
-    requires { 0 < rest }
+    requires { (0 < rest) × (rest ≤ 362) }
     ensures { result ≡ reciprocal_of rest }
 {
-    if rest <= MOST_LEFT {
-        UNIT / rest + 1
-    } else {
-        0
-    }
+    UNIT / rest + 1
 }
 
 // Whether the quotients in an edition, by a divisor of which so many are left, are raised.
@@ -160,14 +139,20 @@ pub fn write_means(edition: u32, r: &[i64], out: &mut [i32], period: usize, divi
     ensures { out.new ≡ put (table period (λ k. rounded edition (at r.now k) divisor)) out.old }
 {
     let (times, rest) = halve(divisor);
+    if MOST_LEFT < rest {
+        write_each(r, out, period, |z| mean_by_division(edition, z, divisor));
+        return;
+    }
+    let shift = times + 1;
+    let m = reciprocal(rest);
+    if may_raise(edition, rest) {
+        write_each(r, out, period, |z| mean_raised(z, divisor, shift, m));
+        return;
+    }
     write_each(
-        edition,
         r,
         out,
         period,
-        divisor,
-        times + 1,
-        reciprocal(rest),
-        may_raise(edition, rest),
+        |z| mean_by_product(edition, z, divisor, shift, m),
     );
 }

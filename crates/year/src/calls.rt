@@ -10,20 +10,11 @@ use campaign::{Entry, Verdict};
 use lines::digest::digest;
 use lines::print::{bits, line_end, number, word};
 use nights::Night;
-use records::Campaign;
 use rounding::AWAY_FROM_ZERO;
 use trend::answering::response;
 use trend::counting::counts;
 use trend::summarising::summary;
 use trend::{Counts, Summary};
-
-// What is held, with the record and the sums as a call left them.
-fn with_record(held: Held, campaign: Campaign, sums: [i64; PLACES]) -> Held {
-    let mut next = held;
-    next.campaign = campaign;
-    next.sums = sums;
-    next
-}
 
 fn start_words(rt: &impl Print, answer: u32) {
     word(rt, b"start");
@@ -34,17 +25,16 @@ fn start_words(rt: &impl Print, answer: u32) {
 // A start with the front parts of these lengths.
 pub fn start_line(
     rt: &impl Print,
-    held: Held,
+    held: &mut Held,
     store: &mut [i32],
     order: u32,
     taps: u32,
     capacity: u32,
     samples: usize,
     wide: usize,
-) -> Held
+)
     requires { (samples ≤ length store.old) × (wide ≤ places) }
 {
-    let mut sums = held.sums;
     let c = held.campaign;
     let done = start(
         c,
@@ -53,12 +43,11 @@ pub fn start_line(
         capacity,
         AWAY_FROM_ZERO,
         &mut store[..samples],
-        &mut sums[..wide],
+        &mut held.sums[..wide],
     );
     let answer = done.answer;
     start_words(rt, answer.number);
-    let after = done.campaign;
-    with_record(held, after, sums)
+    held.campaign = done.campaign;
 }
 
 fn verdict_words(rt: &impl Print, verdict: Verdict) {
@@ -103,41 +92,35 @@ fn entry_words(rt: &impl Print, night: Night, entry: Entry) {
 // The first samples of the recording at hand, entered as this night.
 pub fn enter_line(
     rt: &impl Print,
-    held: Held,
+    held: &mut Held,
     store: &mut Store,
     d: u32,
     night: Night,
     samples: usize,
-) -> Held
+)
     requires { samples ≤ recording }
 {
-    let mut sums = held.sums;
-    let y = held.y;
     let c = held.campaign;
-    let done = enter(c, store, &mut sums, d, night, &y[..samples]);
+    let done = enter(c, store, &mut held.sums, d, night, &held.y[..samples]);
     let entry = done.entry;
     entry_words(rt, night, entry);
-    let after = done.campaign;
-    with_record(held, after, sums)
+    held.campaign = done.campaign;
 }
 
-pub fn withdraw_line(rt: &impl Print, held: Held, store: &mut Store, d: u32) -> Held {
-    let mut sums = held.sums;
+pub fn withdraw_line(rt: &impl Print, held: &mut Held, store: &mut Store, d: u32) {
     let c = held.campaign;
-    let done = withdraw(c, store, &mut sums, d);
+    let done = withdraw(c, store, &mut held.sums, d);
     word(rt, b"withdraw");
     number(rt, d as u64);
     number(rt, done.answer as u64);
     line_end(rt);
-    let after = done.campaign;
-    with_record(held, after, sums)
+    held.campaign = done.campaign;
 }
 
-fn counts_line(rt: &impl Print, held: Held, store: &Store) {
-    let sums = held.sums;
+fn counts_line(rt: &impl Print, held: &Held, store: &Store) {
     let c = held.campaign;
     word(rt, b"counts");
-    match counts(c, store, &sums) {
+    match counts(c, store, &held.sums) {
         Counts::Counted(t) => {
             number(rt, 0);
             number(rt, t.unseen as u64);
@@ -155,58 +138,47 @@ fn counts_line(rt: &impl Print, held: Held, store: &Store) {
 }
 
 // The digests that end the line of a response or a summary.
-fn rooms(rt: &impl Print, held: Held) {
-    let room = held.room;
-    let tags = held.tags;
-    number(rt, digest(&room));
-    number(rt, digest(&tags));
+fn rooms(rt: &impl Print, held: &Held) {
+    number(rt, digest(&held.room));
+    number(rt, digest(&held.tags));
     line_end(rt);
 }
 
-fn response_words(rt: &impl Print, answer: u32, held: Held) {
-    let r = held.r;
-    let mean = held.mean;
+fn response_words(rt: &impl Print, answer: u32, held: &Held) {
     word(rt, b"response");
     number(rt, answer as u64);
-    number(rt, digest(&r));
-    number(rt, digest(&mean));
+    number(rt, digest(&held.r));
+    number(rt, digest(&held.mean));
     rooms(rt, held);
 }
 
 // A response into the front parts of these lengths.
 pub fn response_line(
     rt: &impl Print,
-    held: Held,
+    held: &mut Held,
     store: &Store,
     values: usize,
     means: usize,
     wide: usize,
     tagged: usize,
-) -> Held
+)
     requires { Within values means wide tagged }
 {
     let c = held.campaign;
-    let sums = held.sums;
-    let mut r = held.r;
-    let mut mean = held.mean;
-    let mut room = held.room;
-    let mut tags = held.tags;
+    let r = &mut held.r[..];
+    let mean = &mut held.mean[..];
+    let room = &mut held.room[..];
+    let tags = &mut held.tags[..];
     let answer = response(
         c,
         store,
-        &sums,
+        &held.sums,
         &mut r[..values],
         &mut mean[..means],
         &mut room[..wide],
         &mut tags[..tagged],
     );
-    let mut next = held;
-    next.r = r;
-    next.mean = mean;
-    next.room = room;
-    next.tags = tags;
-    response_words(rt, answer, next);
-    next
+    response_words(rt, answer, held);
 }
 
 fn summary_words(rt: &impl Print, s: Summary) {
@@ -227,39 +199,32 @@ fn summary_words(rt: &impl Print, s: Summary) {
 }
 
 // A summary with the front parts of these lengths.
-pub fn summary_line(rt: &impl Print, held: Held, store: &Store, wide: usize, tagged: usize) -> Held
+pub fn summary_line(rt: &impl Print, held: &mut Held, store: &Store, wide: usize, tagged: usize)
     requires { (wide ≤ places) × (tagged ≤ tag_places) }
 {
     let c = held.campaign;
-    let sums = held.sums;
-    let mut room = held.room;
-    let mut tags = held.tags;
-    let told = summary(c, store, &sums, &mut room[..wide], &mut tags[..tagged]);
-    let mut next = held;
-    next.room = room;
-    next.tags = tags;
+    let room = &mut held.room[..];
+    let tags = &mut held.tags[..];
+    let told = summary(c, store, &held.sums, &mut room[..wide], &mut tags[..tagged]);
     summary_words(rt, told);
-    rooms(rt, next);
-    next
+    rooms(rt, held);
 }
 
-pub fn memory_line(rt: &impl Print, held: Held, store: &Store) {
-    let sums = held.sums;
+pub fn memory_line(rt: &impl Print, held: &Held, store: &Store) {
     word(rt, b"memory");
     number(rt, digest(store));
-    number(rt, digest(&sums));
+    number(rt, digest(&held.sums));
     line_end(rt);
 }
 
 // Counts, a response and a summary, with all the room there is.
-pub fn answers(rt: &impl Print, held: Held, store: &Store) -> Held {
+pub fn answers(rt: &impl Print, held: &mut Held, store: &Store) {
     counts_line(rt, held, store);
-    let told = response_line(rt, held, store, PLACES, PLACES, PLACES, TAGS);
-    summary_line(rt, told, store, PLACES, TAGS)
+    response_line(rt, held, store, PLACES, PLACES, PLACES, TAGS);
+    summary_line(rt, held, store, PLACES, TAGS);
 }
 
-pub fn ask(rt: &impl Print, held: Held, store: &Store) -> Held {
-    let told = answers(rt, held, store);
-    memory_line(rt, told, store);
-    told
+pub fn ask(rt: &impl Print, held: &mut Held, store: &Store) {
+    answers(rt, held, store);
+    memory_line(rt, held, store);
 }

@@ -25,11 +25,11 @@ pub const LOWEST: i32 = -8388608;
 
 pub const HIGHEST: i32 = 8388607;
 
-// The store is lent by reference, since its 98,400 bytes are too many to copy at each call.
+// The samples that a campaign's slots hold.
 pub type Store = [i32; STORE];
 
 // A campaign's record with all else that its calls are lent: the sums, the recording at hand, and the rooms for an answer.
-#[derive(Clone, Copy)]
+#[derive(Drop)]
 pub struct Held {
     pub campaign: Campaign,
     pub sums: [i64; PLACES],

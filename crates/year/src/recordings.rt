@@ -163,16 +163,12 @@ pub fn length_of(plan: Plan, i: usize) -> usize
     night_length(night_of(i, plan.most), period)
 }
 
-// With the recording of visit i at hand.
-pub fn recorded(held: Held, plan: Plan, i: usize) -> Held
+// The recording of visit i, at hand from here on.
+pub fn record(held: &mut Held, plan: Plan, i: usize)
     requires { (i < visits) × Runs plan }
 {
     let period = plan.period;
     let night = night_of(i, plan.most);
     let length = night_length(night, period);
-    let mut y = held.y;
-    record_night(&mut y[..length], run_in(night, period), i);
-    let mut next = held;
-    next.y = y;
-    next
+    record_night(&mut held.y[..length], run_in(night, period), i);
 }

@@ -5,7 +5,7 @@ ghost use Rattle.year.specs.Lent.{places, Runs};
 use crate::calls::{
     answers, enter_line, memory_line, response_line, start_line, summary_line, withdraw_line,
 };
-use crate::recordings::recorded;
+use crate::recordings::record;
 use crate::signals::refused_signals;
 use crate::{HIGHEST, Held, LOWEST, PLACES, Plan, STORE, Store, TAGS};
 use nights::{MOST_PERIODS, Night};
@@ -15,100 +15,99 @@ use register::{LEAST_ORDER, MOST_ORDER};
 // The visit at which all this happens, and whose recording is at hand.
 pub const REFUSED_VISIT: usize = 365;
 
-fn wrong_days(rt: &impl Print, held: Held, store: &mut Store, period: usize) -> Held
+fn wrong_days(rt: &impl Print, held: &mut Held, store: &mut Store, period: usize)
     requires { period < places }
 {
-    let next = enter_line(rt, held, store, 0, Night::Period, period);
-    enter_line(rt, next, store, LAST_DAY + 1, Night::Period, period)
+    enter_line(rt, held, store, 0, Night::Period, period);
+    enter_line(rt, held, store, LAST_DAY + 1, Night::Period, period);
 }
 
-fn wrong_lengths(rt: &impl Print, held: Held, store: &mut Store, period: usize) -> Held
+fn wrong_lengths(rt: &impl Print, held: &mut Held, store: &mut Store, period: usize)
     requires { (0 < period) × (period < places) }
 {
-    let next = enter_line(rt, held, store, 1, Night::Period, period - 1);
-    enter_line(rt, next, store, 1, Night::Period, period + 1)
+    enter_line(rt, held, store, 1, Night::Period, period - 1);
+    enter_line(rt, held, store, 1, Night::Period, period + 1);
 }
 
 // Above the upper rail, and below the lower.
-fn wrong_samples(rt: &impl Print, held: Held, store: &mut Store, period: usize) -> Held
+fn wrong_samples(rt: &impl Print, held: &mut Held, store: &mut Store, period: usize)
     requires { period < places }
 {
-    let mut next = held;
-    next.y[0] = HIGHEST + 1;
-    next = enter_line(rt, next, store, 1, Night::Period, period);
-    next.y[0] = LOWEST - 1;
-    enter_line(rt, next, store, 1, Night::Period, period)
+    held.y[0] = HIGHEST + 1;
+    enter_line(rt, held, store, 1, Night::Period, period);
+    held.y[0] = LOWEST - 1;
+    enter_line(rt, held, store, 1, Night::Period, period);
 }
 
 // No periods, and more than the most.
-fn wrong_counts(rt: &impl Print, held: Held, store: &mut Store, period: usize) -> Held
+fn wrong_counts(rt: &impl Print, held: &mut Held, store: &mut Store, period: usize)
     requires { period < places }
 {
     let beyond = Night::Capture(MOST_PERIODS + 1);
-    let mut next = enter_line(rt, held, store, 0, beyond, period);
-    next = enter_line(rt, next, store, 1, Night::Capture(0), period);
-    enter_line(rt, next, store, 1, beyond, period)
+    enter_line(rt, held, store, 0, beyond, period);
+    enter_line(rt, held, store, 1, Night::Capture(0), period);
+    enter_line(rt, held, store, 1, beyond, period);
 }
 
 // A sample less and a sample more, and as many as there must be, of which the first lies below the lower rail.
-fn wrong_captures(rt: &impl Print, held: Held, store: &mut Store, period: usize) -> Held
+fn wrong_captures(rt: &impl Print, held: &mut Held, store: &mut Store, period: usize)
     requires { (0 < period) × (period < places) }
 {
     let one = Night::Capture(1);
-    let mut next = enter_line(rt, held, store, 1, one, 2 * period - 1);
-    next = enter_line(rt, next, store, 1, one, 2 * period + 1);
-    enter_line(rt, next, store, 1, one, 2 * period)
+    enter_line(rt, held, store, 1, one, 2 * period - 1);
+    enter_line(rt, held, store, 1, one, 2 * period + 1);
+    enter_line(rt, held, store, 1, one, 2 * period);
 }
 
-fn wrong_entries(rt: &impl Print, held: Held, store: &mut Store, plan: Plan) -> Held
+fn wrong_entries(rt: &impl Print, held: &mut Held, store: &mut Store, plan: Plan)
     requires { Runs plan }
 {
     let period = plan.period;
-    let mut next = wrong_days(rt, held, store, period);
-    next = wrong_lengths(rt, next, store, period);
-    next = wrong_samples(rt, next, store, period);
-    next = wrong_counts(rt, next, store, period);
-    wrong_captures(rt, next, store, period)
+    wrong_days(rt, held, store, period);
+    wrong_lengths(rt, held, store, period);
+    wrong_samples(rt, held, store, period);
+    wrong_counts(rt, held, store, period);
+    wrong_captures(rt, held, store, period);
 }
 
-fn wrong_withdrawals(rt: &impl Print, held: Held, store: &mut Store) -> Held {
-    let next = withdraw_line(rt, held, store, 0);
-    withdraw_line(rt, next, store, LAST_DAY + 1)
+fn wrong_withdrawals(rt: &impl Print, held: &mut Held, store: &mut Store) {
+    withdraw_line(rt, held, store, 0);
+    withdraw_line(rt, held, store, LAST_DAY + 1);
 }
 
 // Each room one short.
-fn short_responses(rt: &impl Print, held: Held, store: &Store, period: usize) -> Held
+fn short_responses(rt: &impl Print, held: &mut Held, store: &Store, period: usize)
     requires { (0 < period) × (period < places) }
 {
     let short = period - 1;
-    let mut next = response_line(rt, held, store, short, PLACES, PLACES, TAGS);
-    next = response_line(rt, next, store, PLACES, short, PLACES, TAGS);
-    next = response_line(rt, next, store, PLACES, PLACES, period, TAGS);
-    response_line(rt, next, store, PLACES, PLACES, PLACES, period - 1)
+    response_line(rt, held, store, short, PLACES, PLACES, TAGS);
+    response_line(rt, held, store, PLACES, short, PLACES, TAGS);
+    response_line(rt, held, store, PLACES, PLACES, period, TAGS);
+    response_line(rt, held, store, PLACES, PLACES, PLACES, period - 1);
 }
 
-fn short_summaries(rt: &impl Print, held: Held, store: &Store, period: usize) -> Held
+fn short_summaries(rt: &impl Print, held: &mut Held, store: &Store, period: usize)
     requires { (0 < period) × (period < places) }
 {
-    let next = summary_line(rt, held, store, period, TAGS);
-    summary_line(rt, next, store, PLACES, period - 1)
+    summary_line(rt, held, store, period, TAGS);
+    summary_line(rt, held, store, PLACES, period - 1);
 }
 
 // Just as much as they need, which is accepted.
-fn least_rooms(rt: &impl Print, held: Held, store: &Store, period: usize) -> Held
+fn least_rooms(rt: &impl Print, held: &mut Held, store: &Store, period: usize)
     requires { period < places }
 {
-    let next = response_line(rt, held, store, period, period, period + 1, period);
-    summary_line(rt, next, store, period + 1, period)
+    response_line(rt, held, store, period, period, period + 1, period);
+    summary_line(rt, held, store, period + 1, period);
 }
 
-fn short_rooms(rt: &impl Print, held: Held, store: &Store, plan: Plan) -> Held
+fn short_rooms(rt: &impl Print, held: &mut Held, store: &Store, plan: Plan)
     requires { Runs plan }
 {
     let period = plan.period;
-    let mut next = short_responses(rt, held, store, period);
-    next = short_summaries(rt, next, store, period);
-    least_rooms(rt, next, store, period)
+    short_responses(rt, held, store, period);
+    short_summaries(rt, held, store, period);
+    least_rooms(rt, held, store, period);
 }
 
 // By one more or one less, where it is small.
@@ -124,32 +123,29 @@ fn shifted(v: i64, by: i64) -> i64
     v + by
 }
 
-fn shift_sum(held: Held, by: i64) -> Held
+fn shift_sum(held: &mut Held, by: i64)
     requires { nat_abs by ≤ 1 }
 {
-    let sum = held.sums[0];
-    let mut next = held;
-    next.sums[0] = shifted(sum, by);
-    next
+    held.sums[0] = shifted(held.sums[0], by);
 }
 
 // Calls with one more in sum 0, and then one less in it.
-fn wrong_sums(rt: &impl Print, held: Held, store: &mut Store, plan: Plan) -> Held
+fn wrong_sums(rt: &impl Print, held: &mut Held, store: &mut Store, plan: Plan)
     requires { Runs plan }
 {
     let period = plan.period;
-    let mut next = recorded(held, plan, REFUSED_VISIT);
-    next = shift_sum(next, 1);
-    next = enter_line(rt, next, store, 1, Night::Period, period);
-    next = withdraw_line(rt, next, store, 1);
-    next = answers(rt, next, store);
-    shift_sum(next, -1)
+    record(held, plan, REFUSED_VISIT);
+    shift_sum(held, 1);
+    enter_line(rt, held, store, 1, Night::Period, period);
+    withdraw_line(rt, held, store, 1);
+    answers(rt, held, store);
+    shift_sum(held, -1);
 }
 
-fn wrong_orders(rt: &impl Print, held: Held, store: &mut Store, plan: Plan) -> Held {
+fn wrong_orders(rt: &impl Print, held: &mut Held, store: &mut Store, plan: Plan) {
     let taps = plan.taps;
     let capacity = plan.capacity;
-    let next = start_line(
+    start_line(
         rt,
         held,
         store,
@@ -161,37 +157,37 @@ fn wrong_orders(rt: &impl Print, held: Held, store: &mut Store, plan: Plan) -> H
     );
     start_line(
         rt,
-        next,
+        held,
         store,
         MOST_ORDER + 1,
         taps,
         capacity,
         STORE,
         PLACES,
-    )
+    );
 }
 
 // Not below 2^N, with tap 0 clear, and of a register that is not maximal.
-fn wrong_taps(rt: &impl Print, held: Held, store: &mut Store, plan: Plan) -> Held
+fn wrong_taps(rt: &impl Print, held: &mut Held, store: &mut Store, plan: Plan)
     requires { Runs plan }
 {
     let order = plan.order;
     let capacity = plan.capacity;
     let beyond = plan.period as u32 + 1;
-    let mut next = start_line(rt, held, store, order, beyond, capacity, STORE, PLACES);
-    next = start_line(rt, next, store, order, 2, capacity, STORE, PLACES);
-    start_line(rt, next, store, order, 1, capacity, STORE, PLACES)
+    start_line(rt, held, store, order, beyond, capacity, STORE, PLACES);
+    start_line(rt, held, store, order, 2, capacity, STORE, PLACES);
+    start_line(rt, held, store, order, 1, capacity, STORE, PLACES);
 }
 
-fn wrong_slots(rt: &impl Print, held: Held, store: &mut Store, plan: Plan) -> Held {
+fn wrong_slots(rt: &impl Print, held: &mut Held, store: &mut Store, plan: Plan) {
     let order = plan.order;
     let taps = plan.taps;
-    let next = start_line(rt, held, store, order, taps, 0, STORE, PLACES);
-    start_line(rt, next, store, order, taps, MOST_SLOTS + 1, STORE, PLACES)
+    start_line(rt, held, store, order, taps, 0, STORE, PLACES);
+    start_line(rt, held, store, order, taps, MOST_SLOTS + 1, STORE, PLACES);
 }
 
 // The store one short, and the sums.
-fn short_starts(rt: &impl Print, held: Held, store: &mut Store, plan: Plan) -> Held
+fn short_starts(rt: &impl Print, held: &mut Held, store: &mut Store, plan: Plan)
     requires { Runs plan }
 {
     let order = plan.order;
@@ -199,29 +195,28 @@ fn short_starts(rt: &impl Print, held: Held, store: &mut Store, plan: Plan) -> H
     let capacity = plan.capacity;
     let period = plan.period;
     let samples = capacity as usize * period;
-    let next = start_line(rt, held, store, order, taps, capacity, samples - 1, PLACES);
-    start_line(rt, next, store, order, taps, capacity, STORE, period - 1)
+    start_line(rt, held, store, order, taps, capacity, samples - 1, PLACES);
+    start_line(rt, held, store, order, taps, capacity, STORE, period - 1);
 }
 
-fn wrong_starts(rt: &impl Print, held: Held, store: &mut Store, plan: Plan) -> Held
+fn wrong_starts(rt: &impl Print, held: &mut Held, store: &mut Store, plan: Plan)
     requires { Runs plan }
 {
-    let mut next = wrong_orders(rt, held, store, plan);
-    next = wrong_taps(rt, next, store, plan);
-    next = wrong_slots(rt, next, store, plan);
-    short_starts(rt, next, store, plan)
+    wrong_orders(rt, held, store, plan);
+    wrong_taps(rt, held, store, plan);
+    wrong_slots(rt, held, store, plan);
+    short_starts(rt, held, store, plan);
 }
 
 // All of them, in this order.
-pub fn be_refused(rt: &impl Print, held: Held, store: &mut Store, plan: Plan) -> Held
+pub fn be_refused(rt: &impl Print, held: &mut Held, store: &mut Store, plan: Plan)
     requires { Runs plan }
 {
-    let mut next = wrong_entries(rt, held, store, plan);
-    next = wrong_withdrawals(rt, next, store);
-    next = short_rooms(rt, next, store, plan);
-    next = wrong_sums(rt, next, store, plan);
-    next = wrong_starts(rt, next, store, plan);
-    next = refused_signals(rt, next, plan);
-    memory_line(rt, next, store);
-    next
+    wrong_entries(rt, held, store, plan);
+    wrong_withdrawals(rt, held, store);
+    short_rooms(rt, held, store, plan);
+    wrong_sums(rt, held, store, plan);
+    wrong_starts(rt, held, store, plan);
+    refused_signals(rt, held, plan);
+    memory_line(rt, held, store);
 }

@@ -38,17 +38,13 @@ fn step_line(rt: &impl Print, order: u32, taps: u32, window: u32) {
 }
 
 // A prediction and two players of the plan's order and taps, all refused.
-pub fn refused_signals(rt: &impl Print, held: Held, plan: Plan) -> Held
+pub fn refused_signals(rt: &impl Print, held: &mut Held, plan: Plan)
     requires { Runs plan }
 {
     let order = plan.order;
     let taps = plan.taps;
     let period = plan.period;
-    let mut y = held.y;
-    predict_line(rt, order, taps, period, &mut y);
+    predict_line(rt, order, taps, period, &mut held.y);
     step_line(rt, order, taps, 0);
     step_line(rt, order, taps, period as u32 + 1);
-    let mut next = held;
-    next.y = y;
-    next
 }

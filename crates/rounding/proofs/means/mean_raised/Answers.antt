@@ -1,23 +1,23 @@
--- `rounding::means::even_by` meets its contract, by the laws of `Raised` and `Reciprocal`. Assumes nothing.
-use mathlib.Core.Path.{◌≡◌, ap, ◌∙◌}
+-- `rounding::means::mean_raised` meets its contract, by the laws of `Raised` and `Reciprocal`. Assumes nothing.
+use mathlib.Core.Path.{◌≡◌, sym, ap, subst, ◌∙◌}
 use mathlib.Core.Bool.{Bool, true, false}
 use Prim.Native.Nat.{ℕ, ◌*◌, ◌/◌, ◌^◌, ◌≤◌, ◌<◌}
 use native.Mathlib.Nat.{mul-le-mul_right}
 use native.Mathlib.Omega.{arith}
 use lib.Dec.{eqb}
 use lib.IntN.{pos, nat_abs, ◌-ℤ◌}
-use mir.Syntax.{w64}
+use mir.Syntax.{w32, w64}
 use mir.Val.{SFits, to_z, of_z}
 use mir.ValLaws.{to_z-of_z}
 use Rattle.sums.proofs.Bound.{nat_abs-sub, small_fits}
-use Rattle.samples.proofs.Sizes.{sample_size}
+use Rattle.samples.proofs.Sizes.{sample_size, sample_fits}
 use Rattle.rounding.specs.Rounding.{to_even, settled, nearest_in, rounded}
 use Rattle.rounding.proofs.Signs.{as_signed, rounded_size}
 use Rattle.rounding.proofs.Halves.{near_high}
 use Rattle.rounding.proofs.Raised.{Raises, raises, raised_nonneg}
 use Rattle.rounding.proofs.Reciprocal.{split_some, split_small}
-use Rattle.rounding.proofs.means.even_by.Goals as goal
-use Rattle.rounding.proofs.means.even_by.Goals.{After-quotient_by, After-raise-x, Start}
+use Rattle.rounding.proofs.means.mean_raised.Goals as goal
+use Rattle.rounding.proofs.means.mean_raised.Goals.{After-quotient_by, After-raise-x, Start}
 
 some : (c : Start) → 0 < c.args.d
 some c = split_some 255 c.args.d c.args.shift c.args.m c.requires.0
@@ -73,7 +73,14 @@ overflow_cast-result c = small_fits w64 (pos c.quotient_by.result) (omega (arith
 pub overflow_sub-result : goal.overflow_sub-result
 overflow_sub-result c = rw (signed c) (less-fits c)
 
-pub returns : goal.returns
-returns c =
+-- the mean, before it is cast
+mean : (c : After-quotient_by) → to_z w64 (of_z w64 (to_z w64 c.quotient_by.result -ℤ pos 8388608)) ≡ rounded to_even c.args.r c.args.d
+mean c =
     rw (signed c)
-    (to_z-of_z w64 (pos c.quotient_by.result -ℤ pos 8388608) (less-fits c) ∙ ap (λ n. pos n -ℤ pos 8388608) c.quotient_by.ensures ∙ (raised (goal.at.returns c).After-raise-x).back)
+    (to_z-of_z w64 (pos c.quotient_by.result -ℤ pos 8388608) (less-fits c) ∙ ap (λ n. pos n -ℤ pos 8388608) c.quotient_by.ensures ∙ (raised c.before).back)
+
+pub overflow_cast-result-2 : goal.overflow_cast-result-2
+overflow_cast-result-2 c = subst (SFits w32) (sym (mean c)) (sample_fits (rounded to_even c.args.r c.args.d) c.requires.1)
+
+pub returns : goal.returns
+returns c = to_z-of_z w32 _ (overflow_cast-result-2 c) ∙ mean c
