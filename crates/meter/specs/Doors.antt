@@ -1,9 +1,10 @@
 -- The doors of judging and of the campaign's calls: the record crosses as its order, taps, capacity and edition and three lent tables, `days` of 366, `slots` of 64
 -- and `periods` of 64, and each door is the call's own outcome function between them. At a start a shorter table is room too short, 6 in its place; at every other call
 -- it is refused with 15, before the call's checks. Either way nothing is touched; a longer table keeps its tail. Assumes nothing.
-use Rattle.std.specs.Prelude.{List, [], ◌∷◌, ◌++◌, Bool, cond, not, ◌||◌, ℕ, ◌*◌, eqb, ltb, ℤ, length, take}
+use Rattle.std.specs.Prelude.{List, [], ◌∷◌, ◌++◌, Bool, cond, not, ◌||◌, ℕ, ◌*◌, eqb, ltb, ℤ, length, take, Result}
 use Rattle.sums.specs.Lists.{put}
 use Rattle.sums.specs.Refusals.{outcome, Meaning, accepts, refuses, meant}
+use Rattle.refusals.specs.Causes.{means}
 use Rattle.register.specs.Register.{P}
 use Rattle.register.specs.Calls.{taps_checks}
 use Rattle.samples.specs.Samples.{cleared_wide}
@@ -18,10 +19,9 @@ use Rattle.campaign.specs.declared.Entered.{Entered}
 use Rattle.campaign.specs.Calls.{Withdrawn}
 use Rattle.campaign.specs.Calls.{slots_out, edition_out, file_outcome, shown_to, withdraw_outcome, verdict_means, verdict_number}
 use Rattle.trend.specs.declared.Tally.{Tally}
-use Rattle.trend.specs.declared.Counts.{Counts}
 use Rattle.trend.specs.declared.Levels.{Levels}
 use Rattle.trend.specs.declared.Summary.{Summary}
-use Rattle.trend.specs.Calls.{counts_outcome, response_outcome, summary_outcome, counts_means, summary_means, summary_number}
+use Rattle.trend.specs.Calls.{counts_outcome, response_outcome, summary_outcome, summary_means, summary_number}
 
 -- ---- the record
 
@@ -118,8 +118,8 @@ withdraw_door N taps C E days slots periods store sums d =
 
 -- ---- counts: the answer and the days in each state
 
-abbrev pub counted_out : Tally → Counts → ℕ × Tally
-counted_out was c = meant was (counts_means c)
+abbrev pub counted_out : Tally → Result Tally ℕ → ℕ × Tally
+counted_out was c = meant was (means c)
 
 unfoldable pub counts_door : ℕ → ℕ → ℕ → ℕ → List ℕ → List ℕ → List ℕ → List ℤ → List ℤ → Tally → ℕ × Tally
 counts_door N taps C E days slots periods store sums was =

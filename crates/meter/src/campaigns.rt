@@ -1,14 +1,14 @@
 // The doors of a campaign's calls but those that file a night: the record crosses as four numbers and three lent tables.
 ghost use Rattle.std.specs.Prelude.{◌≡◌};
-ghost use Rattle.register.specs.Calls.{told};
+ghost use Rattle.register.specs.Calls.{told as told_of};
 ghost use Rattle.meter.specs.Doors.{start_door, withdraw_door, counts_door, response_door, summary_door};
 
 use crate::periods::write_answer;
 use crate::tables::{read_record, tables_short, write_record};
 use crate::verdicts::{write_counts, write_summary};
-use campaign::starting::{start, start_refusal};
+use campaign::starting::{check_start, start};
 use campaign::withdrawing::withdraw;
-use register::telling::tell;
+use refusals::{Refusal, told};
 use trend::answering::response;
 use trend::counting::counts;
 use trend::summarising::summary;
@@ -28,18 +28,15 @@ pub fn meter_start(
 ) -> u32
     ensures { ((result, days.new, slots.new, periods.new, store.new, sums.new)
         ≡ start_door order taps capacity edition days.old slots.old periods.old store.old sums.old)
-        × (period.new ≡ told order taps result period.old) }
+        × (period.new ≡ told_of order taps result period.old) }
 {
     if tables_short(days.len(), slots.len(), periods.len()) {
-        let refusal = start_refusal(order, taps, capacity, edition, 0, 0);
-        return write_answer(tell(order, taps, refusal), period);
+        return write_answer(check_start(order, taps, capacity, edition, 0, 0), period);
     }
     let c = read_record(order, taps, capacity, edition, days, slots, periods);
     let started = start(c, order, taps, capacity, edition, store, sums);
-    let made = started.campaign;
-    write_record(made, days, slots, periods);
-    let answer = started.answer;
-    write_answer(answer, period)
+    write_record(started.campaign, days, slots, periods);
+    write_answer(started.answer, period)
 }
 
 pub fn meter_withdraw(
@@ -58,13 +55,12 @@ pub fn meter_withdraw(
         ≡ withdraw_door order taps capacity edition days.old slots.old periods.old store.old sums.old day }
 {
     if tables_short(days.len(), slots.len(), periods.len()) {
-        return 15;
+        return Refusal::Apart.number();
     }
     let c = read_record(order, taps, capacity, edition, days, slots, periods);
     let withdrawn = withdraw(c, store, sums, day);
-    let made = withdrawn.campaign;
-    write_record(made, days, slots, periods);
-    withdrawn.answer
+    write_record(withdrawn.campaign, days, slots, periods);
+    told(withdrawn.answer)
 }
 
 pub fn meter_response(
@@ -87,10 +83,10 @@ pub fn meter_response(
         r.old mean.old room.old tags.old }
 {
     if tables_short(days.len(), slots.len(), periods.len()) {
-        return 15;
+        return Refusal::Apart.number();
     }
     let c = read_record(order, taps, capacity, edition, days, slots, periods);
-    response(c, store, sums, r, mean, room, tags)
+    told(response(c, store, sums, r, mean, room, tags))
 }
 
 pub fn meter_counts(
@@ -114,7 +110,7 @@ pub fn meter_counts(
         (record { unseen = unseen.old; standing = standing.old; overloaded = overloaded.old; dead = dead.old; withdrawn = withdrawn.old }) }
 {
     if tables_short(days.len(), slots.len(), periods.len()) {
-        return 15;
+        return Refusal::Apart.number();
     }
     let c = read_record(order, taps, capacity, edition, days, slots, periods);
     let counted = counts(c, store, sums);
@@ -144,7 +140,7 @@ pub fn meter_summary(
         (record { highest = highest.old; lowest = lowest.old; peak = peak.old }) }
 {
     if tables_short(days.len(), slots.len(), periods.len()) {
-        return 15;
+        return Refusal::Apart.number();
     }
     let c = read_record(order, taps, capacity, edition, days, slots, periods);
     let found = summary(c, store, sums, room, tags);

@@ -6,9 +6,10 @@ ghost use Rattle.meter.specs.Doors.{pair_says, file_door};
 
 use crate::tables::{read_record, tables_short, write_record};
 use crate::verdicts::{verdict_said, write_verdict};
-use campaign::Shown;
 use campaign::entering::file_shown;
+use judging::Judged;
 use nights::Night;
+use refusals::Refusal;
 
 // Either kind of night, by what was shown of it.
 fn file_night(
@@ -24,7 +25,7 @@ fn file_night(
     day: u32,
     night: Night,
     y: &[i32],
-    shown: Shown,
+    shown: Option<Judged>,
     state: &mut u32,
     value: &mut usize,
 ) -> u32
@@ -33,15 +34,12 @@ fn file_night(
         shown state.old value.old }
 {
     if tables_short(days.len(), slots.len(), periods.len()) {
-        return 15;
+        return Refusal::Apart.number();
     }
     let c = read_record(order, taps, capacity, edition, days, slots, periods);
     let entered = file_shown(c, store, sums, day, night, y, shown);
-    let made = entered.campaign;
-    write_record(made, days, slots, periods);
-    let entry = entered.entry;
-    let verdict = entry.verdict;
-    write_verdict(verdict, state, value)
+    write_record(entered.campaign, days, slots, periods);
+    write_verdict(entered.entry.verdict, state, value)
 }
 
 // The same with the verdict that a state and a value say.
@@ -80,7 +78,7 @@ fn file_said(
         day,
         night,
         y,
-        Shown::Handed(verdict_said(shown, place)),
+        Some(verdict_said(shown, place)),
         state,
         value,
     )
@@ -118,7 +116,7 @@ pub fn meter_enter(
         day,
         Night::Period,
         y,
-        Shown::Own,
+        None,
         state,
         value,
     )
@@ -157,7 +155,7 @@ pub fn meter_capture(
         day,
         Night::Capture(m),
         y,
-        Shown::Own,
+        None,
         state,
         value,
     )

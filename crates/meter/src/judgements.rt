@@ -4,11 +4,10 @@ ghost use Rattle.register.specs.Calls.{told};
 ghost use Rattle.nights.specs.Nights.{period as one_period, capture};
 ghost use Rattle.meter.specs.Doors.{judge_door};
 
-use crate::periods::write_answer;
+use crate::periods::write_period;
 use crate::verdicts::write_judged;
 use judging::judging::judge;
 use nights::Night;
-use register::Answer;
 
 // Either kind of night.
 fn judge_night(
@@ -24,16 +23,8 @@ fn judge_night(
         × (period.new ≡ told order taps result period.old) }
 {
     let judgement = judge(order, taps, night, y);
-    let verdict = judgement.verdict;
-    let number = write_judged(verdict, state, value);
-    let told = judgement.period;
-    write_answer(
-        Answer {
-            number,
-            period: told,
-        },
-        period,
-    )
+    write_period(judgement.period, period);
+    write_judged(judgement.verdict, state, value)
 }
 
 pub fn meter_judge(

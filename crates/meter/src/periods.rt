@@ -1,15 +1,30 @@
 // The period of an answer, where C has a number for it.
 ghost use Rattle.std.specs.Prelude.{◌≡◌, cond, eqb};
+ghost use Rattle.refusals.specs.Causes.{answer as number_of, answer_period};
 
-use register::Answer;
+use refusals::Refusal;
 
-// The answer's number; where the answer tells a period, which is never 0, it is written.
-pub fn write_answer(answer: Answer, period: &mut u32) -> u32
-    ensures { (result ≡ answer.number) × (period.new ≡ cond (eqb answer.period 0) period.old answer.period) }
+// A period that is told, which is never 0, is written; where none is, what was there stays.
+pub fn write_period(told: u32, period: &mut u32)
+    ensures { period.new ≡ cond (eqb told 0) period.old told }
 {
-    let told = answer.period;
     if told != 0 {
         *period = told;
     }
-    answer.number
+}
+
+// The answer's number, and its period where it tells one.
+pub fn write_answer(answer: Result<u32, Refusal>, period: &mut u32) -> u32
+    ensures { (result ≡ number_of answer) × (period.new ≡ cond (eqb (answer_period answer) 0) period.old (answer_period answer)) }
+{
+    match answer {
+        Ok(steps) => {
+            write_period(steps, period);
+            0
+        }
+        Err(refusal) => {
+            write_period(refusal.steps(), period);
+            refusal.number()
+        }
+    }
 }

@@ -4,10 +4,10 @@ ghost use Rattle.register.specs.Calls.{told, taps_answer, sequence_outcome};
 ghost use Rattle.meter.specs.Players.{player_of, default_door, new_door, step_door, play_door};
 
 use crate::periods::write_answer;
-use defaults::DefaultTaps;
 use defaults::taps::default_taps;
+use player::Player;
 use player::clock::{new_player, play, step_player};
-use player::{NewPlayer, Player, Tick};
+use refusals::told;
 use register::sequence::sequence;
 use register::taps::check_taps;
 
@@ -21,11 +21,11 @@ pub fn meter_default_taps(order: u32, taps: &mut u32) -> u32
     ensures { (result, taps.new) ≡ default_door order taps.old }
 {
     match default_taps(order) {
-        DefaultTaps::Taps(found) => {
+        Ok(found) => {
             *taps = found;
             0
         }
-        DefaultTaps::Refused(n) => n,
+        Err(refusal) => refusal.number(),
     }
 }
 
@@ -48,14 +48,14 @@ pub fn meter_player_new(
         ≡ new_door order taps (player_of o.old t.old window.old count.old) }
 {
     match new_player(order, taps) {
-        NewPlayer::Ready(p) => {
+        Ok(p) => {
             *o = p.order;
             *t = p.taps;
             *window = p.window;
             *count = p.count;
             0
         }
-        NewPlayer::Refused(n) => n,
+        Err(refusal) => refusal.number(),
     }
 }
 
@@ -80,13 +80,12 @@ pub fn meter_player_step(
     *taps = next.taps;
     *window = next.window;
     *count = next.count;
-    let tick = stepped.tick;
-    match tick {
-        Tick::Sign(x) => {
+    match stepped.tick {
+        Ok(x) => {
             *sign = x;
             0
         }
-        Tick::Refused(n) => n,
+        Err(refusal) => refusal.number(),
     }
 }
 
@@ -112,5 +111,5 @@ pub fn meter_player_play(
     *taps = next.taps;
     *window = next.window;
     *count = next.count;
-    played.answer
+    told(played.answer)
 }

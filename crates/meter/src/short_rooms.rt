@@ -4,21 +4,22 @@ ghost use Rattle.legendre.specs.Calls.{sequence_outcome, recording_outcome, pred
 
 use legendre::sequence::sequence;
 use legendre::{one_recording, predict};
+use refusals::told;
 
 pub fn meter_legendre_sequence(p: u32, out: &mut [u8]) -> u32
     ensures { (result, out.new) ≡ sequence_outcome p out.old }
 {
-    sequence(p, out)
+    told(sequence(p, out))
 }
 
 pub fn meter_legendre_recording(p: u32, y: &[i32], out: &mut [i64]) -> u32
     ensures { (result, out.new) ≡ recording_outcome p y.now out.old }
 {
-    one_recording(p, y, out)
+    told(one_recording(p, y, out))
 }
 
 pub fn meter_legendre_predict(p: u32, h: &[i32], out: &mut [i32]) -> u32
     ensures { (result, out.new) ≡ prediction_outcome p h.now out.old }
 {
-    predict(p, h, out)
+    told(predict(p, h, out))
 }

@@ -2,13 +2,15 @@
 ghost use Rattle.std.specs.Prelude.{◌≡◌};
 ghost use Rattle.sums.specs.Refusals.{meant};
 ghost use Rattle.campaign.specs.Calls.{verdict_means};
-ghost use Rattle.trend.specs.Calls.{counts_means, summary_means};
+ghost use Rattle.refusals.specs.Causes.{means, numbered};
+ghost use Rattle.trend.specs.Calls.{summary_means};
 ghost use Rattle.meter.specs.Doors.{judged_means, pair_says};
 
 use campaign::Verdict;
 use judging::Judged;
 use records::{DEAD, OVERLOADED, STANDING};
-use trend::{Counts, Summary};
+use refusals::Refusal;
+use trend::{Summary, Tally};
 
 // The answer; the state that the verdict gives the day, and the verdict's value, where it is lent.
 pub fn write_verdict(verdict: Verdict, state: &mut u32, value: &mut usize) -> u32
@@ -66,7 +68,7 @@ pub fn verdict_said(state: u32, value: usize) -> Judged
         return Judged::Overloaded(value);
     }
     if value != 0 {
-        return Judged::Refused(23);
+        return Judged::Refused(Refusal::Verdict.number());
     }
     if state == STANDING as u32 {
         return Judged::Kept;
@@ -74,12 +76,12 @@ pub fn verdict_said(state: u32, value: usize) -> Judged
     if state == DEAD as u32 {
         return Judged::Dead;
     }
-    Judged::Refused(23)
+    Judged::Refused(Refusal::Verdict.number())
 }
 
 // The answer; the days in each state where they are lent.
 pub fn write_counts(
-    counts: Counts,
+    counts: Result<Tally, Refusal>,
     unseen: &mut u32,
     standing: &mut u32,
     overloaded: &mut u32,
@@ -88,10 +90,10 @@ pub fn write_counts(
 ) -> u32
     ensures { (result, record { unseen = unseen.new; standing = standing.new; overloaded = overloaded.new; dead = dead.new; withdrawn = withdrawn.new })
         ≡ meant (record { unseen = unseen.old; standing = standing.old; overloaded = overloaded.old; dead = dead.old; withdrawn = withdrawn.old })
-        (counts_means counts) }
+        (means (numbered counts)) }
 {
     match counts {
-        Counts::Counted(t) => {
+        Ok(t) => {
             *unseen = t.unseen;
             *standing = t.standing;
             *overloaded = t.overloaded;
@@ -99,7 +101,7 @@ pub fn write_counts(
             *withdrawn = t.withdrawn;
             0
         }
-        Counts::Refused(n) => n,
+        Err(refusal) => refusal.number(),
     }
 }
 

@@ -2,7 +2,7 @@
 #![tactic(auto)]
 
 ghost use Rattle.std.specs.Prelude.{◌≡◌};
-ghost use Rattle.refusals.specs.Causes.{number as number_of, steps as steps_of};
+ghost use Rattle.refusals.specs.Causes.{number as number_of, steps as steps_of, answer};
 
 #[derive(Clone, Copy, Debug, PartialEq, Eq)]
 pub enum Refusal {
@@ -87,5 +87,15 @@ impl Refusal {
             Refusal::NotMaximal(steps) => steps,
             _ => 0,
         }
+    }
+}
+
+// What a caller is told that takes numbers alone: 0 where it is accepted, or the refusal's number.
+pub fn told(outcome: Result<(), Refusal>) -> u32
+    ensures { result ≡ answer outcome }
+{
+    match outcome {
+        Ok(()) => 0,
+        Err(refusal) => refusal.number(),
     }
 }

@@ -4,11 +4,12 @@ use mathlib.Core.Bool.{true, false}
 use mathlib.Core.List.{List}
 use Prim.Native.Nat.{ℕ}
 use lib.IntN.{ℤ}
+use Rattle.std.specs.Prelude.{Result}
 use Rattle.sums.specs.Refusals.{meant}
 use Rattle.records.specs.declared.Campaign.{Campaign}
 use Rattle.trend.specs.declared.Tally.{Tally}
-use Rattle.trend.specs.declared.Counts.{Counts}
-use Rattle.trend.specs.Calls.{counts_outcome, counts_means}
+use Rattle.refusals.specs.Causes.{means}
+use Rattle.trend.specs.Calls.{counts_outcome}
 use Rattle.meter.specs.Doors.{tables_short, record_of, counted_out, counts_door}
 use Rattle.meter.proofs.Opening.{shut, through}
 use Rattle.meter.proofs.campaigns.meter_counts.Goals as goal
@@ -19,8 +20,8 @@ module _ (N taps C E : ℕ) (days slots periods : List ℕ) (store sums : List �
   unfolding counts_door
   refused h = shut days slots periods _ _ h
 
-  opened : tables_short days slots periods ≡ false → {c : Campaign} {k : Counts} {r : ℕ} {t : Tally}
-      → c ≡ record_of N taps C E days slots periods → k ≡ counts_outcome c store sums → (r, t) ≡ meant was (counts_means k)
+  opened : tables_short days slots periods ≡ false → {c : Campaign} {k : Result Tally ℕ} {r : ℕ} {t : Tally}
+      → c ≡ record_of N taps C E days slots periods → k ≡ counts_outcome c store sums → (r, t) ≡ meant was (means k)
       → (r, t) ≡ counts_door N taps C E days slots periods store sums was
   unfolding counts_door
   opened h {k = k} e o f = through days slots periods _ (counted_out was) {o = k} h f (o ∙ ap (λ c. counts_outcome c store sums) e)
@@ -37,8 +38,8 @@ wide c = sym c.tables_short.ensures ∙ c.if-tables_short.false
 pub returns-then-tables_short : goal.returns-then-tables_short
 returns-then-tables_short c =
     let a = c.args in
-    refused a.order a.taps a.capacity a.edition a.days.now a.slots.now a.periods.now a.store.now a.sums.now (tally (goal.at.returns-then-tables_short c).Start)
-    (sym c.tables_short.ensures ∙ c.if-tables_short.true)
+    rw c.number.ensures (refused a.order a.taps a.capacity a.edition a.days.now a.slots.now a.periods.now a.store.now a.sums.now (tally (goal.at.returns-then-tables_short c).Start)
+    (sym c.tables_short.ensures ∙ c.if-tables_short.true))
 
 pub returns : goal.returns
 returns c =

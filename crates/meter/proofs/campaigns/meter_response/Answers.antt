@@ -29,11 +29,11 @@ wide c = sym c.tables_short.ensures ∙ c.if-tables_short.false
 pub returns-then-tables_short : goal.returns-then-tables_short
 returns-then-tables_short c =
     let a = c.args in
-    refused a.order a.taps a.capacity a.edition a.days.now a.slots.now a.periods.now a.store.now a.sums.now a.r.now a.mean.now a.room.now a.tags.now
-    (sym c.tables_short.ensures ∙ c.if-tables_short.true)
+    rw c.number.ensures (refused a.order a.taps a.capacity a.edition a.days.now a.slots.now a.periods.now a.store.now a.sums.now a.r.now a.mean.now a.room.now a.tags.now
+    (sym c.tables_short.ensures ∙ c.if-tables_short.true))
 
 pub returns : goal.returns
 returns c =
     let a = c.args in
-    opened a.order a.taps a.capacity a.edition a.days.now a.slots.now a.periods.now a.store.now a.sums.now a.r.now a.mean.now a.room.now a.tags.now
-    (wide (goal.at.returns c).Else-tables_short) c.read_record-c.ensures c.response.ensures
+    rw c.told.ensures (opened a.order a.taps a.capacity a.edition a.days.now a.slots.now a.periods.now a.store.now a.sums.now a.r.now a.mean.now a.room.now a.tags.now
+    (wide (goal.at.returns c).Else-tables_short) c.read_record-c.ensures c.response.ensures)

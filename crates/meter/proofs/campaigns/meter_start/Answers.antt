@@ -7,8 +7,9 @@ use lib.IntN.{ℤ}
 use Rattle.sums.specs.Lists.{put}
 use Rattle.sums.specs.Refusals.{first}
 use Rattle.sums.proofs.First.{refused_with}
-use Rattle.register.specs.Calls.{told}
-use Rattle.register.proofs.HowShort.{period-told, passed_on}
+use Rattle.refusals.specs.Causes.{Answer}
+use Rattle.register.specs.Calls.{told, answer_of}
+use Rattle.register.proofs.HowShort.{period-told}
 use Rattle.records.specs.declared.Campaign.{Campaign}
 use Rattle.campaign.specs.Calls.{Started}
 use Rattle.campaign.specs.Calls.{start_checks, start_outcome}
@@ -20,11 +21,12 @@ use Rattle.meter.proofs.campaigns.meter_start.Goals as goal
 use Rattle.meter.proofs.campaigns.meter_start.Goals.{Else-tables_short}
 
 module _ (N taps C E : ℕ) (days slots periods : List ℕ) (store sums : List ℤ) where
-  refused : {n : ℕ} → tables_short days slots periods ≡ true → n ≡ first (start_checks N taps C E [] []) → (n, days, slots, periods, store, sums) ≡ start_door N taps C E days slots periods store sums
+  refused : {a : Answer} → tables_short days slots periods ≡ true → a ≡ answer_of N taps (first (start_checks N taps C E [] []))
+      → (a.number, days, slots, periods, store, sums) ≡ start_door N taps C E days slots periods store sums
   unfolding start_door
-  refused {n} h e =
-      let q = e ∙ short_refused N taps C E days slots periods store sums h in
-      sym (refused_with (λ n. (n, days, slots, periods, store, sums)) _ (start_door_checks N taps C E days slots periods store sums) n q (λ z. short_some N taps C E days slots periods store sums h (sym q ∙ z)))
+  refused {a} h e =
+      let q = ap (λ (a : Answer). a.number) e ∙ short_refused N taps C E days slots periods store sums h in
+      sym (refused_with (λ n. (n, days, slots, periods, store, sums)) _ (start_door_checks N taps C E days slots periods store sums) a.number q (λ z. short_some N taps C E days slots periods store sums h (sym q ∙ z)))
 
   opened : tables_short days slots periods ≡ false → {c : Campaign} {e : Started} {s u : List ℤ} {days' slots' periods' : List ℕ}
       → c ≡ record_of N taps C E days slots periods → (e, s, u) ≡ start_outcome c N taps C E store sums
@@ -46,10 +48,11 @@ wide c = sym c.tables_short.ensures ∙ c.if-tables_short.false
 pub returns-then-tables_short : goal.returns-then-tables_short
 returns-then-tables_short c =
     let a = c.args in
-    handed_on a.order a.taps a.period.now with refl
-    (passed_on a.order a.taps with refl c.tell.ensures
-    (refused a.order a.taps a.capacity a.edition a.days.now a.slots.now a.periods.now a.store.now a.sums.now
-    (sym c.tables_short.ensures ∙ c.if-tables_short.true) c.start_refusal-refusal.ensures))
+    handed_on a.order a.taps a.period.now with refl (
+      refused a.order a.taps a.capacity a.edition a.days.now a.slots.now a.periods.now a.store.now a.sums.now
+          (sym c.tables_short.ensures ∙ c.if-tables_short.true) c.check_start.ensures,
+      period-told a.order a.taps c.check_start.ensures,
+    )
     c.write_answer.ensures
 
 pub returns : goal.returns

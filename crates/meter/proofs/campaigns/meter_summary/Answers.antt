@@ -37,8 +37,8 @@ wide c = sym c.tables_short.ensures ∙ c.if-tables_short.false
 pub returns-then-tables_short : goal.returns-then-tables_short
 returns-then-tables_short c =
     let a = c.args in
-    refused a.order a.taps a.capacity a.edition a.days.now a.slots.now a.periods.now a.store.now a.sums.now a.room.now a.tags.now a.stands.now (levels (goal.at.returns-then-tables_short c).Start)
-    (sym c.tables_short.ensures ∙ c.if-tables_short.true)
+    rw c.number.ensures (refused a.order a.taps a.capacity a.edition a.days.now a.slots.now a.periods.now a.store.now a.sums.now a.room.now a.tags.now a.stands.now (levels (goal.at.returns-then-tables_short c).Start)
+    (sym c.tables_short.ensures ∙ c.if-tables_short.true))
 
 pub returns : goal.returns
 returns c =

@@ -31,4 +31,4 @@ pub returns : goal.returns
 returns c =
     let a = c.args in
     handed_on a.order a.taps a.period.now renumbered refl
-    (written a.order a.taps a.night a.y.now a.state.now a.value.now c.judge-judgement.ensures c.write_judged-number.ensures) c.write_answer.ensures
+    (written a.order a.taps a.night a.y.now a.state.now a.value.now c.judge-judgement.ensures c.write_judged.ensures) (refl, c.write_period.ensures)
