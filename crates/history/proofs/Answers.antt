@@ -8,6 +8,9 @@ use borrow.Author.Tests.{ne_eqb}
 use lib.Dec.{T, eqb}
 use lib.IntN.{ℤ}
 use lib.ListN.{length}
+use Rattle.std.specs.Prelude.{Result, Ok, Err}
+use Rattle.refusals.specs.Causes.{result_number}
+use Rattle.trend.specs.declared.Tally.{Tally}
 use Rattle.sums.specs.Lists.{table, put}
 use Rattle.sums.specs.Refusals.{first}
 use Rattle.sums.proofs.First.{lacks, not_first, accepts, outcome_cases}
@@ -19,14 +22,12 @@ use Rattle.judging.specs.Judging.{judge_checks}
 use Rattle.judging.proofs.Judgements.{judge_first}
 use Rattle.campaign.specs.Calls.{start_checks, file_all, shown_to, withdraw_checks, withdrawn_outcome, start_outcome, withdraw_outcome}
 use Rattle.campaign.proofs.EntryCases.{file_first}
-use Rattle.trend.specs.Calls.{response_checks, summary_checks, tally, counts_outcome, response_outcome, summary_outcome, worked, mean_at, levels_of, divisor, counts_number, summary_number}
+use Rattle.trend.specs.Calls.{response_checks, summary_checks, tally, counts_outcome, response_outcome, summary_outcome, worked, mean_at, levels_of, divisor, summary_number}
 use Rattle.trend.proofs.Enough.{answer_enough}
 use Rattle.history.specs.Run.{World, Call, start, judge, file, withdraw, counts, response, summary, answer}
 use Rattle.records.specs.declared.Campaign.{Campaign}
 use Rattle.campaign.specs.Calls.{Started}
 use Rattle.campaign.specs.Calls.{Withdrawn}
-use Rattle.trend.specs.declared.Counts.{Counts}
-use Rattle.trend.specs.declared.Counts.TheVariants as counted
 use Rattle.trend.specs.declared.Summary.{Summary}
 use Rattle.trend.specs.declared.Summary.TheVariants as summed
 
@@ -77,8 +78,8 @@ module _ (w : World) (t : together w.campaign w.store w.sums ≡ true) where
       (λ n. (record { answer = n; campaign = w.campaign }, w.store, w.sums)) (withdrawn_outcome w.campaign w.store w.sums d) (λ o. o.0.answer ≡ 15 → ⊥)
       (λ n _ h g. not_fifteen (withdraw_checks w.campaign w.store w.sums d) (ap not t) tt (h ∙ g)) (λ _ g. omega arith)
   never_fifteen counts =
-      outcome_cases {A = Counts} ((15, not (together w.campaign w.store w.sums)) ∷ []) tt counted.Refused (counted.Counted (tally w.campaign))
-      (λ o. counts_number o ≡ 15 → ⊥) (λ n _ h g. not_fifteen ((15, not (together w.campaign w.store w.sums)) ∷ []) (ap not t) tt (h ∙ g)) (λ _ g. omega arith)
+      outcome_cases {A = Result Tally ℕ} ((15, not (together w.campaign w.store w.sums)) ∷ []) tt Err (Ok (tally w.campaign))
+      (λ o. result_number o ≡ 15 → ⊥) (λ n _ h g. not_fifteen ((15, not (together w.campaign w.store w.sums)) ∷ []) (ap not t) tt (h ∙ g)) (λ _ g. omega arith)
   never_fifteen (response r mean room tags) =
       outcome_cases {A = ℕ × List ℤ × List ℤ × List ℤ × List ℕ} (response_checks w.campaign w.store w.sums r mean room tags) tt (λ n. (n, r, mean, room, tags))
       (responded w.campaign w.sums r mean room tags) (λ o. o.0 ≡ 15 → ⊥)

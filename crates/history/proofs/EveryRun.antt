@@ -24,7 +24,7 @@ use Rattle.response.proofs.Register.{predicted}
 use Rattle.records.specs.Record.{unseen, standing, overloaded, dead, withdrawn, state, stands, days_in, slot, free, periods, periods_standing, together}
 use Rattle.trend.specs.Calls.{counts_outcome, response_outcome, worked}
 use Rattle.history.specs.Run.{World, Call, answer, run, under_way, begun, made, term_at, heard}
-use Rattle.trend.specs.declared.Counts.TheVariants.{Counted}
+use Rattle.std.specs.Prelude.{Ok}
 use Rattle.trend.proofs.Bounds.{counts_total}
 use Rattle.records.proofs.Holding.{holds-together}
 use Rattle.records.proofs.Tallying.{slots_as_days}
@@ -76,7 +76,7 @@ module _ (w₀ : World) (cs : List Call) (started : under_way w₀ cs ≡ true) 
   days_are q = many_ext 366 (λ i l. ap (λ s. eqb s q) (each_day (i + 1) (day i l)))
 
   pub counts_are : counts_outcome w.campaign w.store w.sums
-      ≡ Counted (record {
+      ≡ Ok (record {
         unseen = days_made unseen;
         standing = days_made standing;
         overloaded = days_made overloaded;

@@ -11,7 +11,8 @@ use Rattle.sums.specs.Lists.{seek, some, every, many, table, put, put_at}
 use Rattle.sums.specs.Refusals.{numbers}
 use Rattle.register.specs.Register.{dot, step, window, period}
 use Rattle.register.specs.Calls.{taps_checks, taps_answer, sequence_checks, sequence_outcome, shape_checks}
-use Rattle.player.specs.Calls.{step_checks, new_outcome, step_outcome, play_outcome, new_number, tick_number}
+use Rattle.player.specs.Calls.{step_checks, new_outcome, step_outcome, play_outcome}
+use Rattle.refusals.specs.Causes.{result_number}
 use Rattle.response.proofs.Order as response
 use Rattle.prediction.proofs.Order as prediction
 use Rattle.legendre.proofs.Order as legendre
@@ -38,14 +39,14 @@ abbrev told : ℕ → ℕ → ℕ → ℕ
 told N taps out = (sequence_outcome N taps (replicate out 9)).0
 
 abbrev new : ℕ → ℕ → ℕ
-new N taps = new_number (new_outcome N taps)
+new N taps = result_number (new_outcome N taps)
 
 abbrev player : ℕ → ℕ → ℕ → Player
 player N taps window = record { order = N; taps = taps; window = window; count = 0 }
 
 -- a step and a block of one sign answer alike
 abbrev stepped : ℕ → ℕ → ℕ → ℕ × ℕ
-stepped N taps window = (tick_number (step_outcome (player N taps window)).tick, (play_outcome (player N taps window) (pos 9 ∷ [])).0.answer)
+stepped N taps window = (result_number (step_outcome (player N taps window)).tick, (play_outcome (player N taps window) (pos 9 ∷ [])).0.answer)
 
 pub record Registers : Type 0 where
   pub taps : (N taps : ℕ) → numbers (taps_checks N taps) ≡ 1 ∷ 2 ∷ 3 ∷ 4 ∷ []

@@ -11,7 +11,8 @@ use Rattle.records.specs.Record.{unseen, withdrawn, fresh}
 use Rattle.judging.specs.Judging.{judging, judged_number}
 use Rattle.campaign.specs.Calls.{start_outcome, settled_of, file_outcome, own, shown_to, withdraw_outcome, state_of, verdict_number}
 use Rattle.campaign.specs.Calls.{Shown}
-use Rattle.trend.specs.Calls.{counts_outcome, response_outcome, summary_outcome, counts_number, summary_number}
+use Rattle.trend.specs.Calls.{counts_outcome, response_outcome, summary_outcome, summary_number}
+use Rattle.refusals.specs.Causes.{result_number}
 use Rattle.records.specs.declared.Campaign.{Campaign}
 
 -- the record and the lent memory that a run is about
@@ -56,7 +57,7 @@ answer w (start N taps C E) = (start_outcome w.campaign N taps C E w.store w.sum
 answer w (judge N taps night y) = judged_number (judging N taps night y)
 answer w (file d night y s) = verdict_number (file_outcome w.campaign w.store w.sums d night y (shown_to w.campaign night y s)).0.entry.verdict
 answer w (withdraw d) = (withdraw_outcome w.campaign w.store w.sums d).0.answer
-answer w counts = counts_number (counts_outcome w.campaign w.store w.sums)
+answer w counts = result_number (counts_outcome w.campaign w.store w.sums)
 answer w (response r mean room tags) = (response_outcome w.campaign w.store w.sums r mean room tags).0
 answer w (summary room tags) = summary_number (summary_outcome w.campaign w.store w.sums room tags).0
 

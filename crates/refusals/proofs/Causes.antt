@@ -3,7 +3,7 @@ use Rattle.std.proofs.Common.{ℕ, ◌≡◌, refl, sym, ap, ap₂, ◌∙◌, a
 use Rattle.std.specs.Result.{IsErrAnd}
 use mathlib.Core.Bool.{true≢false}
 use lib.Dec.{eqb}
-use Rattle.refusals.specs.Causes.{number, steps, answer, said, Answer}
+use Rattle.refusals.specs.Causes.{number, steps, answer, numbered, result_number, answer_period, said, Answer}
 use Rattle.refusals.specs.declared.Refusal.{Refusal}
 use Rattle.refusals.specs.declared.Refusal.TheVariants as refusal
 
@@ -112,6 +112,25 @@ same_said (Ok p) (Ok q) h = ap Ok (ap (λ (a : Answer). a.period) h)
 same_said (Ok p) (Err e) h = absurd (never_0 e (sym (ap (λ (a : Answer). a.number) h)))
 same_said (Err e) (Ok q) h = absurd (never_0 e (ap (λ (a : Answer). a.number) h))
 same_said (Err d) (Err e) h = ap Err (same_refusal d e (ap (λ (a : Answer). a.number) h) (ap (λ (a : Answer). a.period) h))
+
+-- two answers in numbers, where none of them is 4
+pub same_numbered : {A : Type 0} (r s : Result A Refusal) → numbered r ≡ numbered s → (answer r ≡ 4 → ⊥) → r ≡ s
+same_numbered (Ok v) (Ok w) h n = ap Ok (cc)
+same_numbered (Ok v) (Err e) h n = absurd (cc)
+same_numbered (Err d) (Ok w) h n = absurd (cc)
+same_numbered (Err d) (Err e) h n =
+    let k : number d ≡ number e = cc in ap Err (same_refusal d e k (no_steps d n ∙ sym (no_steps e (λ z. n (k ∙ z)))))
+
+pub same_answered : (r s : Result Unit Refusal) → answer r ≡ answer s → (answer r ≡ 4 → ⊥) → r ≡ s
+same_answered (Ok u) (Ok v) h n = refl
+same_answered (Ok u) (Err e) h n = absurd (never_0 e (sym h))
+same_answered (Err d) (Ok u) h n = absurd (never_0 d h)
+same_answered (Err d) (Err e) h n = ap Err (same_refusal d e h (no_steps d n ∙ sym (no_steps e (λ z. n (h ∙ z)))))
+
+-- the number of an answer in numbers is the answer's
+pub numbered_answer : {A : Type 0} (r : Result A Refusal) → result_number (numbered r) ≡ answer r
+numbered_answer (Ok v) = refl
+numbered_answer (Err e) = refl
 
 -- ---- in the code
 
