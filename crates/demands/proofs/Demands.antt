@@ -38,14 +38,13 @@ use Rattle.register.specs.Calls.{order_out, told, answer_of, shape_checks, taps_
 use Rattle.register.proofs.HowShort.{Tells}
 use Rattle.register.proofs.HowShort as short
 use Rattle.refusals.specs.Causes.{Answer}
-use Rattle.defaults.specs.Calls.{default_outcome, default_number}
-use Rattle.defaults.specs.declared.DefaultTaps.TheVariants as default
-use Rattle.player.specs.Calls.{new_outcome, step_checks, step_outcome, play_outcome, new_number, tick_number}
+use Rattle.std.specs.Prelude.{Ok, Err}
+use Rattle.refusals.specs.Causes.{result_number}
+use Rattle.defaults.specs.Calls.{default_outcome}
+use Rattle.player.specs.Calls.{new_outcome, step_checks, step_outcome, play_outcome}
 use Rattle.player.specs.declared.Player.{Player}
-use Rattle.player.specs.declared.NewPlayer.TheVariants as new
-use Rattle.player.specs.declared.Tick.TheVariants as tick
-use Rattle.player.specs.declared.Stepped.{Stepped}
-use Rattle.player.specs.declared.Played.{Played}
+use Rattle.player.specs.Calls.{Stepped}
+use Rattle.player.specs.Calls.{Played}
 use Rattle.samples.specs.Samples.{length_off, sample_out, some_out, within}
 use Rattle.response.specs.Response as formula
 use Rattle.response.specs.Calls.{given_checks, recording_checks, recording_outcome}
@@ -92,12 +91,11 @@ use Rattle.campaign.proofs.Handed.{start_edition}
 use Rattle.campaign.specs.declared.Entered.{Entered}
 use Rattle.campaign.specs.Calls.{Withdrawn}
 use Rattle.campaign.specs.declared.Verdict.TheVariants as verdict
-use Rattle.trend.specs.Calls.{worked, mean_at, counts_outcome, counts_number, response_checks, response_outcome, summary_checks, summary_outcome, summary_number}
+use Rattle.trend.specs.Calls.{worked, mean_at, counts_outcome, response_checks, response_outcome, summary_checks, summary_outcome, summary_number}
 use Rattle.trend.proofs.Bounds.{worked_small, mean_fits}
 use Rattle.trend.proofs.Enough as of_trend
 use Rattle.trend.proofs.Opposed.{Opposed}
 use Rattle.trend.proofs.MeansAlone.{in_edition, same_counts, same_summary, same_but_means}
-use Rattle.trend.specs.declared.Counts.TheVariants as counts
 use Rattle.trend.specs.declared.Levels.{Levels}
 use Rattle.trend.specs.declared.Summary.{Summary}
 use Rattle.trend.specs.declared.Summary.TheVariants as summary
@@ -133,9 +131,9 @@ pub record Refusals : Type 0 where
   pub taps_check : (N taps : ℕ) → Checked (1 ∷ 2 ∷ 3 ∷ 4 ∷ []) (taps_checks N taps) (λ (n : ℕ). n) (λ n. n) (taps_answer N taps)
   pub sequence : (N taps : ℕ) (out : List ℕ)
       → Checked (1 ∷ 2 ∷ 3 ∷ 4 ∷ 6 ∷ []) (sequence_checks N taps out) (λ (o : ℕ × List ℕ). o.0) (λ n. (n, out)) (sequence_outcome N taps out)
-  pub new_player : (N taps : ℕ) → Checked (1 ∷ 2 ∷ 3 ∷ []) (shape_checks N taps) new_number new.Refused (new_outcome N taps)
+  pub new_player : (N taps : ℕ) → Checked (1 ∷ 2 ∷ 3 ∷ []) (shape_checks N taps) result_number Err (new_outcome N taps)
   pub step : (p : Player)
-      → Checked (1 ∷ 2 ∷ 3 ∷ 16 ∷ []) (step_checks p) (λ (s : Stepped). tick_number s.tick) (λ n. record { tick = tick.Refused n; player = p }) (step_outcome p)
+      → Checked (1 ∷ 2 ∷ 3 ∷ 16 ∷ []) (step_checks p) (λ (s : Stepped). result_number s.tick) (λ n. record { tick = Err n; player = p }) (step_outcome p)
   pub play : (p : Player) (signs : List ℤ)
       → Checked (1 ∷ 2 ∷ 3 ∷ 16 ∷ []) (step_checks p) (λ (o : Played × List ℤ). o.0.answer) (λ n. (record { answer = n; player = p }, signs)) (play_outcome p signs)
   pub recording : (N taps : ℕ) (y out room : List ℤ) (tags : List ℕ)
@@ -152,7 +150,7 @@ pub record Refusals : Type 0 where
       → Checked (25 ∷ 5 ∷ 6 ∷ 7 ∷ []) (legendre.recording_checks p y out) (λ (o : ℕ × List ℤ). o.0) (λ n. (n, out)) (legendre.recording_outcome p y out)
   pub legendre_prediction : (p : ℕ) (h out : List ℤ)
       → Checked (25 ∷ 5 ∷ 6 ∷ 7 ∷ 8 ∷ []) (legendre.prediction_checks p h out) (λ (o : ℕ × List ℤ). o.0) (λ n. (n, out)) (legendre.prediction_outcome p h out)
-  pub default_taps : (N : ℕ) → Checked (1 ∷ []) ((1, order_out N) ∷ []) default_number default.Refused (default_outcome N)
+  pub default_taps : (N : ℕ) → Checked (1 ∷ []) ((1, order_out N) ∷ []) result_number Err (default_outcome N)
   pub start : (c : Campaign) (N taps C E : ℕ) (store sums : List ℤ)
       → Checked (1 ∷ 2 ∷ 3 ∷ 4 ∷ 9 ∷ 24 ∷ 6 ∷ []) (start_checks N taps C E store sums) (λ (o : Started × List ℤ × List ℤ). o.0.answer.number)
       (λ n. (record { answer = answer_of N taps n; campaign = c }, store, sums)) (start_outcome c N taps C E store sums)
@@ -169,7 +167,7 @@ pub record Refusals : Type 0 where
       → Checked (15 ∷ 10 ∷ 13 ∷ []) (withdraw_checks c store sums d) (λ (o : Withdrawn × List ℤ × List ℤ). o.0.answer)
       (λ n. (record { answer = n; campaign = c }, store, sums)) (withdraw_outcome c store sums d)
   pub counts : (c : Campaign) (store sums : List ℤ)
-      → Checked (15 ∷ []) ((15, apart c store sums) ∷ []) counts_number counts.Refused (counts_outcome c store sums)
+      → Checked (15 ∷ []) ((15, apart c store sums) ∷ []) result_number Err (counts_outcome c store sums)
   pub response : (c : Campaign) (store sums r mean room : List ℤ) (tags : List ℕ)
       → Checked (15 ∷ 6 ∷ 14 ∷ []) (response_checks c store sums r mean room tags) (λ (o : ℕ × List ℤ × List ℤ × List ℤ × List ℕ). o.0)
       (λ n. (n, r, mean, room, tags)) (response_outcome c store sums r mean room tags)
@@ -800,7 +798,7 @@ pub record Said (w₀ : World) (cs : List Call) (w : World) : Type 0 where
   pub no_fifteen : (call : Call) → answer w call ≡ 15 → ⊥
   pub refused : (call : Call) → (answer w call ≡ 0 → ⊥) → after w call ≡ w
   pub counts : let days : ℕ → ℕ = λ q. many 366 (λ i. eqb (made w₀ cs (i + 1)) q) in counts_outcome w.campaign w.store w.sums
-      ≡ counts.Counted (record {
+      ≡ Ok (record {
         unseen = days unseen;
         standing = days standing;
         overloaded = days overloaded;

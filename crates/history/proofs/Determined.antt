@@ -20,7 +20,7 @@ use Rattle.defaults.specs.Calls.{default_rows, takes, default_outcome}
 use Rattle.player.specs.Calls.{Stepped, Played, fresh_player, new_outcome, step_checks, step_outcome, play_outcome}
 use Rattle.legendre.specs.Calls as legendre
 use Rattle.records.specs.Record.{apart}
-use Rattle.campaign.specs.Calls.{withdraw_checks, withdraw_outcome}
+use Rattle.campaign.specs.Calls.{Withdrawn as Left, withdraw_checks, withdraw_outcome}
 use Rattle.trend.specs.Calls.{tally, counts_outcome, response_checks, response_outcome}
 use Rattle.trend.specs.declared.Tally.{Tally}
 use Rattle.player.specs.declared.Player.{Player}
@@ -126,7 +126,7 @@ ticked_one : (before : Player) (x y : Result ℤ Refusal) (s t : Player) → ste
 unfolding step_outcome
 ticked_one before x y s t p q =
     let n = sym (numbered_answer x) ∙ ap (λ (o : Stepped). result_number o.tick) (sym p)
-        ∙ answers_first (step_checks before) (λ (o : Stepped). result_number o.tick) (λ n. record { tick = Err n; player = before }) _ (λ n. refl) refl in
+    ∙ answers_first (step_checks before) (λ (o : Stepped). result_number o.tick) (λ n. record { tick = Err n; player = before }) _ (λ n. refl) refl in
     ap₂ (λ x y. (x, y)) (same_numbered x y (ap (λ (o : Stepped). o.tick) (sym p ∙ q)) (λ z. not_first 4 (step_checks before) tt (sym n ∙ z))) (ap (λ (o : Stepped). o.player) (sym p ∙ q))
 
 -- an answer with its player and its signs
@@ -136,8 +136,8 @@ played_one : (before : Player) (l : List ℤ) (x y : Result Unit Refusal) (s t :
 unfolding play_outcome
 played_one before l x y s t m n p q =
     let k = ap (λ (o : Played × List ℤ). o.0.answer) (sym p)
-        ∙ answers_first (step_checks before) (λ (o : Played × List ℤ). o.0.answer) (λ n. (record { answer = n; player = before }, l)) _ (λ n. refl) refl in
-    ap₂ (λ x y. (x, y)) (same_answered x y (ap (λ (o : Played × List ℤ). o.0.answer) (sym p ∙ q)) (λ z. not_first 4 (step_checks before) tt (sym k ∙ z)))
+    ∙ answers_first (step_checks before) (λ (o : Played × List ℤ). o.0.answer) (λ n. (record { answer = n; player = before }, l)) _ (λ n. refl) refl in
+    ap₂ (λ x (o : Player × List ℤ). (x, o.0, o.1)) (same_answered x y (ap (λ (o : Played × List ℤ). o.0.answer) (sym p ∙ q)) (λ z. not_first 4 (step_checks before) tt (sym k ∙ z)))
     (ap (λ (o : Played × List ℤ). (o.0.player, o.1)) (sym p ∙ q))
 
 pub step_player_determined : Determined 0 step_player_kinds.ps step_player_kinds.r (Result ℤ Refusal × Player) step_player.Learnt (λ κs r s. (r.tick, r.player))
@@ -161,7 +161,8 @@ fill_determined = played_one
 pub one-recording_determined : Determined 4 one-recording_kinds.ps one-recording_kinds.r (Result ℕ Refusal × List ℤ × List ℤ × List ℕ) one-recording.Learnt
     (λ κs r s. (r, s.1.1.1.0.now, s.1.1.1.1.0.now, s.1.1.1.1.1.0.now))
 one-recording_determined κs a x y s t p q =
-    told_one a.0 a.1.0 (λ n (o : List ℤ × List ℤ × List ℕ). (n, o)) (λ o. o.0) (λ o. o.1) (λ n o. refl) (λ n o. refl) x y _ _ p q
+    ap (λ (o : Result ℕ Refusal × (List ℤ × List ℤ × List ℕ)). (o.0, o.1.0, o.1.1, o.1.2))
+    (told_one a.0 a.1.0 (λ n (o : List ℤ × List ℤ × List ℕ). (n, o.0, o.1, o.2)) (λ o. o.0) (λ o. (o.1, o.2, o.3)) (λ n o. refl) (λ n o. refl) x y _ _ p q)
 
 pub predict_determined : Determined 2 predict_kinds.ps predict_kinds.r (Result ℕ Refusal × List ℤ) predict.Learnt (λ κs r s. (r, s.1.1.1.0.now))
 predict_determined κs a x y s t p q = told_one a.0 a.1.0 (λ n (o : List ℤ). (n, o)) (λ o. o.0) (λ o. o.1) (λ n o. refl) (λ n o. refl) x y _ _ p q
@@ -169,7 +170,8 @@ predict_determined κs a x y s t p q = told_one a.0 a.1.0 (λ n (o : List ℤ). 
 pub predict_in_room_determined : Determined 3 predict_in_room_kinds.ps predict_in_room_kinds.r (Result ℕ Refusal × List ℤ × List ℤ) predict_in_room.Learnt
     (λ κs r s. (r, s.1.1.1.0.now, s.1.1.1.1.0.now))
 predict_in_room_determined κs a x y s t p q =
-    told_one a.0 a.1.0 (λ n (o : List ℤ × List ℤ). (n, o)) (λ o. o.0) (λ o. o.1) (λ n o. refl) (λ n o. refl) x y _ _ p q
+    ap (λ (o : Result ℕ Refusal × (List ℤ × List ℤ)). (o.0, o.1.0, o.1.1))
+    (told_one a.0 a.1.0 (λ n (o : List ℤ × List ℤ). (n, o.0, o.1)) (λ o. o.0) (λ o. (o.1, o.2)) (λ n o. refl) (λ n o. refl) x y _ _ p q)
 
 -- ---- Legendre sequences
 
@@ -195,9 +197,9 @@ judge_determined κs a x y s t p q = p ∙ sym q
 pub start_determined : Determined 2 start_kinds.ps start_kinds.r (Started × List ℤ × List ℤ) start.Learnt (λ κs r s. (r, s.1.1.1.1.1.0.now, s.1.1.1.1.1.1.0.now))
 start_determined κs a x y s t p q =
     let e = p ∙ sym q in
-    ap₂ (λ a b. (a, b))
+    ap₂ (λ a (b : List ℤ × List ℤ). (a, b.0, b.1))
     (ap₂ (λ a c. record { answer = a; campaign = c }) (same_said x.answer y.answer (ap (λ o. o.0.answer) e)) (ap (λ o. o.0.campaign) e))
-    (ap (λ o. o.1) e)
+    (ap (λ o. (o.1, o.2)) e)
 
 pub file_determined : Determined 3 file_kinds.ps file_kinds.r (Entered × List ℤ × List ℤ) file.Learnt (λ κs r s. (r, s.1.0.now, s.1.1.0.now))
 file_determined κs a x y s t p q = p ∙ sym q
@@ -210,10 +212,10 @@ unfolding withdraw_outcome
 withdraw_determined κs a x y s t p q =
     let e = p ∙ sym q in
     let checks = withdraw_checks a.0 a.1.0.now a.1.1.0.now a.1.1.1.0 in
-    let n = ap (λ o. o.0.answer) p ∙ answers_first checks (λ o. o.0.answer) (λ n. (record { answer = n; campaign = a.0 }, a.1.0.now, a.1.1.0.now)) _ (λ n. refl) refl in
-    ap₂ (λ a b. (a, b))
-    (ap₂ (λ a c. record { answer = a; campaign = c }) (same_answered x.answer y.answer (ap (λ o. o.0.answer) e) (λ z. not_first 4 checks tt (sym n ∙ z))) (ap (λ o. o.0.campaign) e))
-    (ap (λ o. o.1) e)
+    let n = ap (λ (o : Left × List ℤ × List ℤ). o.0.answer) p ∙ answers_first checks (λ (o : Left × List ℤ × List ℤ). o.0.answer) (λ n. (record { answer = n; campaign = a.0 }, a.1.0.now, a.1.1.0.now)) _ (λ n. refl) refl in
+    ap₂ (λ a (b : List ℤ × List ℤ). (a, b.0, b.1))
+    (ap₂ (λ a c. record { answer = a; campaign = c }) (same_answered x.answer y.answer (ap (λ (o : Left × List ℤ × List ℤ). o.0.answer) e) (λ z. not_first 4 checks tt (sym n ∙ z))) (ap (λ (o : Left × List ℤ × List ℤ). o.0.campaign) e))
+    (ap (λ (o : Left × List ℤ × List ℤ). (o.1, o.2)) e)
 
 pub counts_determined : Determined 2 counts_kinds.ps counts_kinds.r (Result Tally Refusal) counts.Learnt (λ κs r s. r)
 unfolding counts_outcome
@@ -222,8 +224,11 @@ counts_determined κs a x y s t p q = numbered_one ((15, apart a.0 a.1.0.now a.1
 pub response_determined : Determined 6 response_kinds.ps response_kinds.r (Result Unit Refusal × List ℤ × List ℤ × List ℤ × List ℕ) response.Learnt (λ κs r s. (r, s.1.1.1.0.now, s.1.1.1.1.0.now, s.1.1.1.1.1.0.now, s.1.1.1.1.1.1.0.now))
 unfolding response_outcome
 response_determined κs a x y s t p q =
-    answered_one (response_checks a.0 a.1.0.now a.1.1.0.now a.1.1.1.0.now a.1.1.1.1.0.now a.1.1.1.1.1.0.now a.1.1.1.1.1.1.0.now)
-    (a.1.1.1.0.now, a.1.1.1.1.0.now, a.1.1.1.1.1.0.now, a.1.1.1.1.1.1.0.now) _ tt x y _ _ p q
+    let e = p ∙ sym q in
+    let checks = response_checks a.0 a.1.0.now a.1.1.0.now a.1.1.1.0.now a.1.1.1.1.0.now a.1.1.1.1.1.0.now a.1.1.1.1.1.1.0.now in
+    let n = ap (λ (o : ℕ × List ℤ × List ℤ × List ℤ × List ℕ). o.0) p ∙ answers_first checks (λ (o : ℕ × List ℤ × List ℤ × List ℤ × List ℕ). o.0) (λ n. (n, a.1.1.1.0.now, a.1.1.1.1.0.now, a.1.1.1.1.1.0.now, a.1.1.1.1.1.1.0.now)) _ (λ n. refl) refl in
+    ap₂ (λ a (b : List ℤ × List ℤ × List ℤ × List ℕ). (a, b.0, b.1, b.2, b.3)) (same_answered x y (ap (λ (o : ℕ × List ℤ × List ℤ × List ℤ × List ℕ). o.0) e) (λ z. not_first 4 checks tt (sym n ∙ z)))
+    (ap (λ (o : ℕ × List ℤ × List ℤ × List ℤ × List ℕ). (o.1, o.2, o.3, o.4)) e)
 
 pub summary_determined : Determined 4 summary_kinds.ps summary_kinds.r (Summary × List ℤ × List ℕ) summary.Learnt (λ κs r s. (r, s.1.1.1.0.now, s.1.1.1.1.0.now))
 summary_determined κs a x y s t p q = p ∙ sym q
