@@ -7,7 +7,7 @@ ghost use Rattle.sums.specs.Equal.{eq_z};
 ghost use Rattle.records.specs.Record.{periods};
 ghost use Rattle.records.specs.Blocks.{Block};
 
-use crate::Campaign;
+use crate::{Campaign, FREE};
 use samples::clearing::fill_front;
 use samples::range::{between, least_of, most_of};
 
@@ -17,7 +17,8 @@ const BLOCK: usize = 1024;
 // What the slot of a night of one recording has.
 const ONE_PERIOD: u8 = 1;
 
-// A used slot's samples at some places, added to their sums: whether all lie between the bounds.
+// A used slot's samples at some places, added to their sums: whether all lie between the bounds. Both are done in one pass, with no branch between two
+// samples, so that the compiler takes many at a time.
 pub fn add_row(row: &[i32], low: i32, high: i32, sums: &mut [i64]) -> bool
     requires { (length row.now ≤ length sums.old) × ((j : ℕ) → j < length row.now → nat_abs (at sums.old j) ≤ 2 ^ 40) }
     ensures { (result ≡ every (length row.now) (λ j. le_z low (at row.now j) && le_z (at row.now j) high))
@@ -32,7 +33,7 @@ pub fn add_row(row: &[i32], low: i32, high: i32, sums: &mut [i64]) -> bool
     good
 }
 
-// Whether a free slot's samples at some places are zeros.
+// Whether a free slot's samples at some places are zeros. No chain's contract says that its items are in a sample's range, so a proof of `all` does not close.
 fn zero_row(row: &[i32]) -> bool
     ensures { result ≡ every (length row.now) (λ j. eq_z (at row.now j) (pos 0)) }
 {
@@ -52,7 +53,7 @@ fn take_row(day: u16, m: u8, row: &[i32], sums: &mut [i64]) -> bool
         (every (length row.now) (λ j. within m (at row.now j))))
         × ((j : ℕ) → at sums.new j ≡ at sums.old j +ℤ cond (eqb day 0) (pos 0) (at row.now j)) }
 {
-    if day == 0 {
+    if day == FREE {
         return zero_row(row);
     }
     // The compiler knows the bounds of one period, and tests for such faster.

@@ -44,22 +44,22 @@ impl Campaign {
         self.days[d as usize - 1] == STANDING
     }
 
-    // How many days are in this state.
+    // How many days are in this state. Each adds 1 or 0, so that the compiler takes many at a time.
     pub fn days_in(&self, q: u8) -> u32
         ensures { result ≡ days_in self.now q }
     {
-        self.days.iter().filter(|&&state| state == q).count() as u32
+        self.days.iter().map(|&state| u32::from(state == q)).sum()
     }
 
     // How many slots hold this day.
-    fn slots_of(&self, day: u16) -> usize
+    fn slots_of(&self, day: u16) -> u32
         requires { self.now.capacity ≤ 64 }
         ensures { result ≡ many self.now.capacity (λ s. eqb (slot self.now s) day) }
     {
         self.slots[..self.capacity as usize]
             .iter()
-            .filter(|&&held| held == day)
-            .count()
+            .map(|&held| u32::from(held == day))
+            .sum()
     }
 
     // How many periods the slots have.
@@ -69,7 +69,7 @@ impl Campaign {
     {
         self.periods[..self.capacity as usize]
             .iter()
-            .map(|&m| m as u32)
+            .map(|&m| u32::from(m))
             .sum()
     }
 

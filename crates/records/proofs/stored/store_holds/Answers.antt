@@ -4,7 +4,7 @@ use mathlib.Core.Bool.{true≢false}
 use Prim.Native.Nat.{◌+◌}
 use native.Mathlib.Omega.{arith}
 use Rattle.records.specs.Blocks.{Block}
-use Rattle.records.proofs.Reading.{no_block, next_block, a_block}
+use Rattle.records.proofs.Reading.{next_block, a_block}
 use Rattle.records.proofs.stored.store_holds.Goals as goal
 use Rattle.records.proofs.stored.store_holds.Goals.{Else-not-block_holds}
 
@@ -12,9 +12,6 @@ use Rattle.records.proofs.stored.store_holds.Goals.{Else-not-block_holds}
 further : (c : Else-not-block_holds) → let r = c.args.c.now in
     Block r.slots r.periods r.capacity c.args.period c.args.store.now c.args.sums.now 0 (c.loop-from.from + c.min-count.result)
 further c = next_block c.loop-from.invariant.1 (c.block_holds.ensures.0 c.if-not-block_holds.false)
-
-pub loop-from-init : goal.loop-from-init
-loop-from-init c = (omega arith, no_block)
 
 pub loop-from-preserved : goal.loop-from-preserved
 loop-from-preserved c =
@@ -31,8 +28,3 @@ pub returns-else-not-block_holds : goal.returns-else-not-block_holds
 returns-else-not-block_holds c =
     let e : c.loop-from.from + c.min-count.result ≡ c.args.period = omega arith in
     (λ t. rw e at (further (goal.at.returns-else-not-block_holds c).Else-not-block_holds), λ b. refl)
-
-pub returns : goal.returns
-returns c =
-    let e : c.loop-from.from ≡ c.args.period = omega arith in
-    (λ t. rw e at c.loop-from.invariant.1, λ b. refl)
