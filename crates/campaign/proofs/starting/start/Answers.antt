@@ -45,4 +45,4 @@ returns c =
     accepted a.c a.order a.taps a.capacity a.edition a.store.now a.sums.now _ c.start_refusal-refusal.ensures c.tell-answer.ensures c.if-refusal-ne0.false
     c.blank.ensures
     (c.fill_front.ensures ∙ ap (λ n. cleared_wide (a.capacity * n) a.store.now) c.full_period-period.ensures)
-    (c.fill_front.ensures ∙ ap (λ n. cleared_wide n a.sums.now) c.full_period-period.ensures)
+    (c.fill_front-2.ensures ∙ ap (λ n. cleared_wide n a.sums.now) c.full_period-period.ensures)

@@ -14,7 +14,7 @@ use Rattle.sums.proofs.Sum.{total-le}
 use Rattle.samples.specs.Samples.{sample_out}
 use Rattle.samples.proofs.Sizes.{sample_size}
 use Rattle.prediction.proofs.direct.may_be_loud.Goals as goal
-use Rattle.prediction.proofs.direct.may_be_loud.Goals.{After-size-sum, Start}
+use Rattle.prediction.proofs.direct.may_be_loud.Goals.{After-unsigned_abs-sum, Start}
 
 -- every value is a sample, so a sum of their sizes is far from the largest number
 small : (c : Start) → let h = c.args.h.now in (i : ℕ) → i ≤ length h → total i (λ k. nat_abs (at h k)) ≤ 65535 * 2 ^ 23
@@ -27,12 +27,12 @@ small c i l =
     )
 
 -- the size that comes next
-sized : (c : After-size-sum) → c.size-sum.result ≡ nat_abs (at c.args.h.now c.loop-i.i)
-sized c = c.size-sum.ensures ∙ ap nat_abs (read w64 _ c.widened.type_inv ∙ c.widened.ensures)
+sized : (c : After-unsigned_abs-sum) → c.unsigned_abs-sum.result ≡ nat_abs (at c.args.h.now c.loop-i.i)
+sized c = c.unsigned_abs-sum.ensures.value ∙ ap nat_abs (read w64 _ c.widened.type_inv ∙ c.widened.ensures)
 
 -- and the sum with it
-summed : (c : After-size-sum) → let h = c.args.h.now in
-    total (c.loop-i.i + 1) (λ k. nat_abs (at h k)) ≡ c.loop-i.sum + c.size-sum.result
+summed : (c : After-unsigned_abs-sum) → let h = c.args.h.now in
+    total (c.loop-i.i + 1) (λ k. nat_abs (at h k)) ≡ c.loop-i.sum + c.unsigned_abs-sum.result
 unfolding total
 summed c = rw add-one (omega (arith, c.loop-i.invariant.1, sized c))
 

@@ -11,7 +11,7 @@ use Rattle.samples.proofs.Sizes.{sample_size}
 use Rattle.rounding.proofs.Halves.{close}
 use Rattle.rounding.proofs.Signs.{rounded_size}
 use Rattle.rounding.proofs.means.mean_as.Goals as goal
-use Rattle.rounding.proofs.means.mean_as.Goals.{After-size, Start}
+use Rattle.rounding.proofs.means.mean_as.Goals.{After-unsigned_abs, Start}
 
 small : (c : Start) → nearest_in c.args.edition (nat_abs c.args.r) c.args.d ≤ 2 ^ 23
 small c =
@@ -20,8 +20,8 @@ small c =
 back-r : (c : Start) → to_z w64 (of_z w64 c.args.r) ≡ c.args.r
 back-r c = to_z-of_z w64 c.args.r c.ranges.r
 
-sized : (c : After-size) → c.size.result ≡ nat_abs c.args.r
-sized c = c.size.ensures ∙ ap nat_abs (back-r c.before.before)
+sized : (c : After-unsigned_abs) → c.unsigned_abs.result ≡ nat_abs c.args.r
+sized c = c.unsigned_abs.ensures.value ∙ ap nat_abs (back-r c.before.before)
 
 pub near_as-requires : goal.near_as-requires
 near_as-requires c =
