@@ -238,10 +238,8 @@ fn enter_day(
             campaign: c,
         });
     }
-    if n < recording.len() {
-        return entered_by(file_night(c, day, night, store, sums, &recording[..n]));
-    }
-    entered_by(file_night(c, day, night, store, sums, recording))
+    let came = n.min(recording.len());
+    entered_by(file_night(c, day, night, store, sums, &recording[..came]))
 }
 
 fn close(
