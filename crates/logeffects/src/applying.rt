@@ -321,6 +321,7 @@ fn ask(
 }
 
 // The work of an item that may stand there, with the line that it makes.
+#[tactic(auto, unfolding(crate::specs::Book::applied))]
 pub fn apply(
     book: Book,
     item: Item,
