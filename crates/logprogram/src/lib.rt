@@ -15,13 +15,11 @@ pub struct Bookmark {
     pub going: bool,
 }
 
-// A turn's text is the first `length` bytes of what was lent for it.
+// A turn, where enough bytes were at hand to tell. Its text is the first `length` bytes of what was lent for it.
 #[derive(Clone, Copy)]
 pub struct Turned {
     pub mark: Bookmark,
     // How many bytes it took.
     pub used: usize,
-    // Too few bytes were at hand to tell.
-    pub short: bool,
     pub length: usize,
 }

@@ -11,21 +11,20 @@ use telling::{tell, word_for};
 // What could not be done.
 #[derive(Clone, Copy)]
 pub enum Failed {
-    Nothing,
     // A turn's text was not written whole.
     Writing,
     // The input could not be read.
     Reading,
 }
 
-// Where the program stands, the bytes of the buffer that are at hand, and what failed.
+// Where the program stands, the bytes of the buffer that are at hand, and what failed, if anything did.
 #[derive(Clone, Copy)]
 pub struct Progress {
     pub mark: Bookmark,
     pub from: usize,
     pub to: usize,
     pub ended: bool,
-    pub failed: Failed,
+    pub failed: Option<Failed>,
 }
 
 // What is said on standard error once the program has stopped.
