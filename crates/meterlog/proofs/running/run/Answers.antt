@@ -1,7 +1,7 @@
 -- `meterlog::running::run` meets its contract: the bytes at hand lie in the buffer, the offset is that of at most five bytes a turn, and the
 -- program goes on where turns from the beginning lead. Assumes nothing.
-use mathlib.Core.Path.{◌≡◌, refl, sym, ap}
-use mathlib.Core.Bool.{Bool, true, false, not}
+use mathlib.Core.Path.{◌≡◌, ap}
+use mathlib.Core.Bool.{true, false}
 use native.Mathlib.Numerals.{add-one}
 use native.Mathlib.Omega.{arith}
 use Rattle.logprogram.specs.Program.{Place}
@@ -17,20 +17,11 @@ loop-turn-init g c = (
   held_first _ c.first_mark.result c.requires.memory_value c.first_mark.ensures,
 )
 
--- not false is true
-on : (b : Bool) → not b ≡ false → b ≡ true
-on true e = refl
-on false e = sym e
-
-off : (b : Bool) → not b ≡ true → b ≡ false
-off true e = sym e
-off false e = refl
-
 pub loop-turn-preserved : goal.loop-turn-preserved
 loop-turn-preserved g c =
     let q = c.step-p.ensures in
     let l = c.loop-turn.invariant in
-    let o = on c.step-p.result.mark.going c.if-not-p.false in (
+    let o : c.step-p.result.mark.going ≡ true = grind arith in (
       q.inside_2,
       omega (arith, offset_after q.stepped, l.1),
       o,
@@ -40,7 +31,8 @@ loop-turn-preserved g c =
 pub returns-then-not-p-clause-ended : goal.returns-then-not-p-clause-ended
 returns-then-not-p-clause-ended g c =
     let l = c.loop-turn.invariant in
-    held_stopped l.3 l.2 c.step-p.ensures.stepped (off c.step-p.result.mark.going c.if-not-p.true)
+    let o : c.step-p.result.mark.going ≡ false = grind arith in
+    held_stopped l.3 l.2 c.step-p.ensures.stepped o
 
 pub returns-clause-ended : goal.returns-clause-ended
 returns-clause-ended g c = let z : c.loop-turn._turn ≡ most_turns = omega arith in held_last (rw z at c.loop-turn.invariant.3)
