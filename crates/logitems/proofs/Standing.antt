@@ -42,7 +42,7 @@ module _ (p : Phase) (P : ℕ) (bytes : List ℕ) (ended : Bool) (some : length 
 -- ---- each way to be bad: at the place of the kind byte
 
 -- an unknown kind
-unknown_barred : (p : Phase) (P k : ℕ) → (k ≡ 0) ⊎ (kind_edition < k) → may_stand p P k ≡ false
+pub unknown_barred : (p : Phase) (P k : ℕ) → (k ≡ 0) ⊎ (kind_edition < k) → may_stand p P k ≡ false
 unknown_barred phase.Unbegun P k u = none u kind_start (omega arith) (omega arith)
 unknown_barred (phase.Between begun) P k u =
     simp (

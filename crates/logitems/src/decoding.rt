@@ -1,22 +1,17 @@
 // What stands at a place of the log: one byte of kind, then a body whose length the kind fixes.
 ghost use Rattle.std.specs.Prelude.{◌≡◌, ◌+◌, ◌<◌, length};
-ghost use Rattle.logitems.specs.Kinds.{body_length};
+ghost use Rattle.logitems.specs.Kinds.{body_length, byte_of};
 ghost use Rattle.logitems.specs.Log.{byte_at, pair_at, sample_at, item_at, ending, cut as cut_off, decoded};
 
-use crate::kinds::{CAPTURE, EDITION, ENTER, OPEN, SAMPLE, START, WITHDRAW, body_length};
-use crate::phases::{may_end, may_stand};
+use crate::kinds::Kind;
+use crate::phases::may_end;
 use crate::{Found, Item, Phase};
-
-// How many numbers three bytes hold, and the first of the upper half, which stands for the negative ones.
-const THREE_BYTES: i32 = 16777216;
-
-const FIRST_NEGATIVE: u32 = 8388608;
 
 fn byte_at(bytes: &[u8], i: usize) -> u32
     requires { i < length bytes.now }
     ensures { (result ≡ byte_at bytes.now i) × (result < 256) }
 {
-    bytes[i] as u32
+    u32::from(bytes[i])
 }
 
 // Two bytes from place i on, the lower first.
@@ -24,36 +19,31 @@ fn pair_at(bytes: &[u8], i: usize) -> u32
     requires { i + 1 < length bytes.now }
     ensures { (result ≡ pair_at bytes.now i) × (result < 65536) }
 {
-    byte_at(bytes, i) + 256 * byte_at(bytes, i + 1)
+    u32::from(u16::from_le_bytes([bytes[i], bytes[i + 1]]))
 }
 
-// Three bytes after the kind, the lowest first, signed.
+// Three bytes after the kind, the lowest first, signed: the upper three of four, and the shift keeps their sign.
 fn sample_at(bytes: &[u8]) -> i32
     requires { 3 < length bytes.now }
     ensures { result ≡ sample_at bytes.now }
 {
-    let n = pair_at(bytes, 1) + 65536 * byte_at(bytes, 3);
-    if n < FIRST_NEGATIVE {
-        n as i32
-    } else {
-        n as i32 - THREE_BYTES
-    }
+    i32::from_le_bytes([0, bytes[1], bytes[2], bytes[3]]) >> 8
 }
 
 // The item of a kind.
-fn item_at(kind: u8, bytes: &[u8]) -> Item
-    requires { body_length kind < length bytes.now }
-    ensures { result ≡ item_at kind bytes.now }
+fn item_at(kind: Kind, bytes: &[u8]) -> Item
+    requires { body_length (byte_of kind) < length bytes.now }
+    ensures { result ≡ item_at (byte_of kind) bytes.now }
 {
     match kind {
-        START => Item::Start(byte_at(bytes, 1), pair_at(bytes, 2), byte_at(bytes, 4)),
-        OPEN => Item::Open(pair_at(bytes, 1)),
-        SAMPLE => Item::Sample(sample_at(bytes)),
-        ENTER => Item::Enter,
-        WITHDRAW => Item::Withdraw(pair_at(bytes, 1)),
-        CAPTURE => Item::Capture(pair_at(bytes, 1), byte_at(bytes, 3)),
-        EDITION => Item::Edition(byte_at(bytes, 1)),
-        _ => Item::Ask,
+        Kind::Start => Item::Start(byte_at(bytes, 1), pair_at(bytes, 2), byte_at(bytes, 4)),
+        Kind::Open => Item::Open(pair_at(bytes, 1)),
+        Kind::Sample => Item::Sample(sample_at(bytes)),
+        Kind::Enter => Item::Enter,
+        Kind::Withdraw => Item::Withdraw(pair_at(bytes, 1)),
+        Kind::Ask => Item::Ask,
+        Kind::Capture => Item::Capture(pair_at(bytes, 1), byte_at(bytes, 3)),
+        Kind::Edition => Item::Edition(byte_at(bytes, 1)),
     }
 }
 
@@ -81,14 +71,16 @@ fn cut(ended: bool) -> Found
 pub fn decode(phase: Phase, period: usize, bytes: &[u8], ended: bool) -> Found
     ensures { result ≡ decoded phase period bytes.now ended }
 {
-    if bytes.len() == 0 {
+    let Some(&byte) = bytes.first() else {
         return at_end(phase, ended);
-    }
-    let kind = bytes[0];
-    if !may_stand(phase, period, kind) {
+    };
+    let Ok(kind) = Kind::try_from(byte) else {
+        return Found::Bad;
+    };
+    if !kind.may_stand(phase, period) {
         return Found::Bad;
     }
-    let body = body_length(kind);
+    let body = kind.body_length();
     if bytes.len() <= body {
         return cut(ended);
     }

@@ -6,10 +6,5 @@ pub fn to_front(bytes: &mut [u8], from: usize, to: usize)
     requires { (from ≤ to) × (to ≤ length bytes.old) }
     ensures { take (to - from) bytes.new ≡ take (to - from) (drop from bytes.old) }
 {
-    let left = to - from;
-    let mut i = 0;
-    while i < left {
-        bytes[i] = bytes[from + i];
-        i += 1;
-    }
+    bytes.copy_within(from..to, 0);
 }

@@ -1,24 +1,44 @@
 // The kinds of item: one byte, then a body whose length the kind fixes.
 ghost use Rattle.std.specs.Prelude.{◌≡◌};
-ghost use Rattle.logitems.specs.Kinds.{body_length};
+ghost use Rattle.logitems.specs.Kinds.{body_length, byte_of, Decodes};
 
-pub const START: u8 = 1;
+#[derive(Clone, Copy, PartialEq, Eq)]
+pub enum Kind {
+    Start,
+    Open,
+    Sample,
+    Enter,
+    Withdraw,
+    Ask,
+    // Opens a day of several periods.
+    Capture,
+    // An edition of the report rules.
+    Edition,
+}
 
-pub const OPEN: u8 = 2;
+// A byte that stands for no kind.
+#[derive(Clone, Copy)]
+pub struct UnknownKind(pub u8);
 
-pub const SAMPLE: u8 = 3;
+impl TryFrom<u8> for Kind {
+    type Error = UnknownKind;
 
-pub const ENTER: u8 = 4;
+    ghost try_from_gives = { Decodes };
 
-pub const WITHDRAW: u8 = 5;
-
-pub const ASK: u8 = 6;
-
-// Opens a day of several periods.
-pub const CAPTURE: u8 = 7;
-
-// An edition of the report rules.
-pub const EDITION: u8 = 8;
+    fn try_from(byte: u8) -> Result<Self, UnknownKind> {
+        match byte {
+            1 => Ok(Kind::Start),
+            2 => Ok(Kind::Open),
+            3 => Ok(Kind::Sample),
+            4 => Ok(Kind::Enter),
+            5 => Ok(Kind::Withdraw),
+            6 => Ok(Kind::Ask),
+            7 => Ok(Kind::Capture),
+            8 => Ok(Kind::Edition),
+            _ => Err(UnknownKind(byte)),
+        }
+    }
+}
 
 // Order, taps and slots.
 const START_BODY: usize = 4;
@@ -34,17 +54,18 @@ const EDITION_BODY: usize = 1;
 
 const NO_BODY: usize = 0;
 
-// How many bytes follow a kind.
-pub fn body_length(kind: u8) -> usize
-    ensures { result ≡ body_length kind }
-{
-    match kind {
-        START => START_BODY,
-        OPEN => DAY_BODY,
-        SAMPLE => SAMPLE_BODY,
-        WITHDRAW => DAY_BODY,
-        CAPTURE => CAPTURE_BODY,
-        EDITION => EDITION_BODY,
-        _ => NO_BODY,
+impl Kind {
+    // How many bytes follow it.
+    pub fn body_length(self) -> usize
+        ensures { result ≡ body_length (byte_of self) }
+    {
+        match self {
+            Kind::Start => START_BODY,
+            Kind::Open | Kind::Withdraw => DAY_BODY,
+            Kind::Sample => SAMPLE_BODY,
+            Kind::Capture => CAPTURE_BODY,
+            Kind::Edition => EDITION_BODY,
+            Kind::Enter | Kind::Ask => NO_BODY,
+        }
     }
 }

@@ -1,31 +1,13 @@
 // Where a log stands between items: which kinds may stand there, whether the input may end there, and where each item leads.
 ghost use Rattle.std.specs.Prelude.{◌≡◌, ◌+◌, ◌^◌, ◌<◌, ltb};
 ghost use Rattle.nights.specs.Nights.{night_length};
+ghost use Rattle.logitems.specs.Kinds.{byte_of};
 ghost use Rattle.logitems.specs.Phases.{stands_outside, stands_inside, may_stand, may_end, goes_on, first_phase, after_other, after_answer, after_open, after_sample, after_enter};
 
 use crate::Phase;
-use crate::kinds::{ASK, CAPTURE, EDITION, ENTER, OPEN, SAMPLE, START, WITHDRAW};
+use crate::kinds::Kind;
 use nights::Night;
 use nights::shape::{lead_of, periods_of};
-
-// Kinds that stand only outside a day, an edition only directly after the start.
-fn stands_outside(begun: bool, kind: u8) -> bool
-    ensures { result ≡ stands_outside begun kind }
-{
-    if kind == OPEN {
-        return true;
-    }
-    if kind == WITHDRAW {
-        return true;
-    }
-    if kind == ASK {
-        return true;
-    }
-    if kind == CAPTURE {
-        return true;
-    }
-    begun && kind == EDITION
-}
 
 // Whether an open day that has n samples so far takes one more: by its whole periods, which no product can overflow. In the first period, which
 // every night has, it asks for no division.
@@ -39,25 +21,39 @@ fn takes_more(night: Night, n: usize, period: usize) -> bool
     period != 0 && n / period < periods
 }
 
-// Kinds that stand only in an open day, which has n samples so far and takes no more than its night's.
-fn stands_inside(kind: u8, night: Night, n: usize, period: usize) -> bool
-    ensures { result ≡ stands_inside kind n (night_length period night) }
-{
-    if kind == ENTER {
-        return true;
+impl Kind {
+    // Kinds that stand only outside a day, an edition only directly after the start.
+    fn stands_outside(self, begun: bool) -> bool
+        ensures { result ≡ stands_outside begun (byte_of self) }
+    {
+        match self {
+            Kind::Open | Kind::Withdraw | Kind::Ask | Kind::Capture => true,
+            Kind::Edition => begun,
+            Kind::Start | Kind::Sample | Kind::Enter => false,
+        }
     }
-    kind == SAMPLE && takes_more(night, n, period)
-}
 
-// The first item is a start and no other is.
-pub fn may_stand(phase: Phase, period: usize, kind: u8) -> bool
-    ensures { result ≡ may_stand phase period kind }
-{
-    match phase {
-        Phase::Unbegun => kind == START,
-        Phase::Between(begun) => stands_outside(begun, kind),
-        Phase::Open(_, night, n) => stands_inside(kind, night, n, period),
-        Phase::Stopped => false,
+    // Kinds that stand only in an open day, which has n samples so far and takes no more than its night's.
+    fn stands_inside(self, night: Night, n: usize, period: usize) -> bool
+        ensures { result ≡ stands_inside (byte_of self) n (night_length period night) }
+    {
+        match self {
+            Kind::Enter => true,
+            Kind::Sample => takes_more(night, n, period),
+            _ => false,
+        }
+    }
+
+    // The first item is a start and no other is.
+    pub fn may_stand(self, phase: Phase, period: usize) -> bool
+        ensures { result ≡ may_stand phase period (byte_of self) }
+    {
+        match phase {
+            Phase::Unbegun => self == Kind::Start,
+            Phase::Between(begun) => self.stands_outside(begun),
+            Phase::Open(_, night, n) => self.stands_inside(night, n, period),
+            Phase::Stopped => false,
+        }
     }
 }
 
@@ -65,24 +61,14 @@ pub fn may_stand(phase: Phase, period: usize, kind: u8) -> bool
 pub fn may_end(phase: Phase) -> bool
     ensures { result ≡ may_end phase }
 {
-    match phase {
-        Phase::Unbegun => false,
-        Phase::Between(_) => true,
-        Phase::Open(_, _, _) => false,
-        Phase::Stopped => true,
-    }
+    matches!(phase, Phase::Between(_) | Phase::Stopped)
 }
 
 // Only a refused start or edition stops the log.
 pub fn goes_on(phase: Phase) -> bool
     ensures { result ≡ goes_on phase }
 {
-    match phase {
-        Phase::Unbegun => true,
-        Phase::Between(_) => true,
-        Phase::Open(_, _, _) => true,
-        Phase::Stopped => false,
-    }
+    !matches!(phase, Phase::Stopped)
 }
 
 // Before the first item.

@@ -1,14 +1,15 @@
 -- Document 01, "The log program", and document 02, request 1, as one function: from all bytes of the input to all bytes that are printed. What stands at a place of the
 -- log is crate `logitems`'s `decoded`, what an item does is `logeffects`'s `applied`, and a line's bytes are `report`'s: here is only how they
 -- follow each other. Assumes nothing.
-use Rattle.std.specs.Prelude.{List, [], ◌++◌, Bool, true, false, ℕ, zero, suc, ◌+◌, ℤ, pos, length, take, drop, replicate}
+use Rattle.std.specs.Prelude.{List, [], ◌++◌, Bool, true, false, ℕ, zero, suc, ◌+◌, ℤ, pos, length, take, drop, replicate, Option, Some, None}
 use Rattle.sums.specs.Lists.{at}
 use Rattle.logitems.specs.Phases.{goes_on}
 use Rattle.logitems.specs.Log.{decoded}
 use Rattle.logitems.specs.declared.Found.{Found}
 use Rattle.logitems.specs.declared.Found.TheVariants as found
 use Rattle.report.specs.Lines.{line_bytes, row_bytes, bad_bytes}
-use Rattle.logeffects.specs.Book.{Memory, memory, unbegun_book, day_length, applied}
+use Rattle.logeffects.specs.Book.{memory, unbegun_book, day_length, applied}
+use Rattle.logeffects.specs.declared.Memory.{Memory}
 use Rattle.logeffects.specs.declared.Book.{Book}
 use Rattle.logeffects.specs.declared.Applied.{Applied}
 use Rattle.logprogram.specs.declared.Bookmark.{Bookmark}
@@ -86,8 +87,10 @@ place_of b m = record { book = b.book; memory = m; offset = b.offset; going = b.
 abbrev pub stopped_mark : Bookmark → Bookmark
 stopped_mark b = record { book = b.book; offset = b.offset; going = false }
 
-abbrev pub turn_of : Turned → Memory → List ℕ → Turn
-turn_of t m out = record { text = take t.length out; place = place_of t.mark m; used = t.used; short = t.short }
+-- none where too few bytes were at hand to tell
+abbrev pub turn_of : Bookmark → Option Turned → Memory → List ℕ → Turn
+turn_of b None m out = record { text = []; place = place_of b m; used = 0; short = true }
+turn_of b (Some t) m out = record { text = take t.length out; place = place_of t.mark m; used = t.used; short = false }
 
 -- ---- all of them
 

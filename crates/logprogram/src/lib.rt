@@ -1,4 +1,4 @@
-// The log program as one function, from the bytes of its input to the bytes that it prints; and its turn, on memory that is lent.
+// The log program as one function, from the bytes of its input to the bytes that it prints; and its turn.
 #![tactic(auto)]
 
 pub mod turning;
@@ -6,22 +6,21 @@ pub mod writing;
 
 use logeffects::Book;
 
-// Where the program stands, beside the memory lent.
+// Where the program stands, beside the memory.
 #[derive(Clone, Copy)]
 pub struct Bookmark {
     pub book: Book,
     // The offset of the next kind byte.
     pub offset: u64,
+    // Whether it goes on: of a program that stopped the book still says where.
     pub going: bool,
 }
 
-// A turn's text is the first `length` bytes of what was lent for it.
+// A turn, where enough bytes were at hand to tell. Its text is the first `length` bytes of what was lent for it, as there is no heap for a `String`.
 #[derive(Clone, Copy)]
 pub struct Turned {
     pub mark: Bookmark,
     // How many bytes it took.
     pub used: usize,
-    // Too few bytes were at hand to tell.
-    pub short: bool,
     pub length: usize,
 }

@@ -1,4 +1,4 @@
-// What an item prints, one text behind another.
+// What an item prints, one text behind another in the buffer lent: each function answers the place past what it put there, as there is no heap for a `Vec`.
 ghost use Rattle.std.specs.Prelude.{◌++◌, ◌+◌, ◌*◌, ◌≤◌, length, take};
 ghost use Rattle.report.specs.Lines.{line_bytes, bad_bytes, Wrote};
 ghost use Rattle.logprogram.specs.Program.{rows_bytes};
@@ -10,9 +10,7 @@ fn put_text(text: Text, out: &mut [u8], at: usize) -> usize
     requires { (text.length ≤ 128) × (at + 128 ≤ length out.old) }
     ensures { Wrote (take text.length text.bytes) at out.old result out.new × (result ≤ at + 128) }
 {
-    let bytes = text.bytes;
-    let length = text.length;
-    put_word(&bytes[..length], out, at)
+    put_word(&text.bytes[..text.length], out, at)
 }
 
 // The first lines of a response.
@@ -21,10 +19,8 @@ fn put_rows(rows: usize, r: &[i64], mean: &[i32], out: &mut [u8], at: usize) -> 
     ensures { Wrote (rows_bytes rows r.now mean.now) at out.old result out.new }
 {
     let mut next = at;
-    let mut k = 0;
-    while k < rows {
-        next = put_text(row_text(k as u64, r[k], mean[k] as i64), out, next);
-        k += 1;
+    for k in 0..rows {
+        next = put_text(row_text(k as u64, r[k], i64::from(mean[k])), out, next);
     }
     next
 }

@@ -1,20 +1,19 @@
 -- Where the bytes at hand lie in the buffer, after a turn and after a read. Assumes nothing.
 use mathlib.Core.Path.{◌≡◌, refl, sym, ap, ◌∙◌}
-use mathlib.Core.Bool.{Bool, true, false, not}
+use mathlib.Core.Bool.{Bool, true, false}
 use mathlib.Core.List.{List, [], ◌∷◌, ◌++◌}
 use Prim.Native.Nat.{ℕ, suc, ◌+◌, ◌-◌, ◌≤◌}
 use native.Mathlib.Omega.{arith}
 use borrow.Author.Tests.{ne_eqb}
 use lib.Dec.{eqb}
-use lib.IntN.{ℤ, pos}
 use lib.ListN.{length, take, drop, length-drop}
 use lib.Seq.{length-take-le, take-append-le, take-append-add, take-add, drop-drop, drop_at}
-use lib.Signed.{lt_z}
 use Rattle.logprogram.specs.Reads.{none}
 use Rattle.meterlog.specs.Buffer.{hand, Inside, provided, after_read, Refilled}
 use Rattle.meterlog.specs.declared.Progress.{Progress}
 use Rattle.meterlog.specs.declared.Failed.{Failed}
-use Rattle.meterlog.specs.declared.Failed.TheVariants.{Nothing, Reading}
+use Rattle.meterlog.specs.declared.Failed.TheVariants.{Reading}
+use Rattle.std.proofs.Common.{None}
 
 -- what failed leaves the bytes at hand where they are
 pub provided-hand : (ok : Bool) (p : Progress) (f : Failed) (bytes : List ℕ) → hand (provided ok p f) bytes ≡ hand p bytes
@@ -41,24 +40,21 @@ read_behind left n s part tail h l =
     ∙ take-append-add (take left s) (part ++ tail) n
     ∙ ap (λ t. take left s ++ t) (take-append-le n part tail l)
 
-pub refilled : (p : Progress) (got : ℤ) (n : ℕ) (before front part tail : List ℕ) → let left = p.to - p.from in
+pub refilled : (p : Progress) (got : Bool) (n : ℕ) (before front part tail : List ℕ) → let left = p.to - p.from in
     left ≤ length front → n ≤ length part → take left front ≡ hand p before → let after = take left front ++ (part ++ tail) in left + n ≤ length after
     → Refilled p before (after_read p got n) after × Inside (after_read p got n) after
 refilled p got n before front part tail l m e i = (
   record {
     got = got;
     came = take n part;
-    behind = provided-hand ok x Reading _ ∙ read_behind (p.to - p.from) n front part tail l m ∙ ap (λ y. y ++ take n part) e;
+    behind = provided-hand got x Reading _ ∙ read_behind (p.to - p.from) n front part tail l m ∙ ap (λ y. y ++ take n part) e;
     is = ap (after_read p got) (sym (length-take-le n part m));
   },
-  provided-inside ok x Reading (record { forth = omega arith; inside = i }),
+  provided-inside got x Reading (record { forth = omega arith; inside = i }),
 )
   where
-    ok : Bool
-    ok = not (lt_z got (pos 0))
-
     x : Progress
-    x = record { mark = p.mark; from = 0; to = p.to - p.from + n; ended = eqb n 0; failed = Nothing }
+    x = record { mark = p.mark; from = 0; to = p.to - p.from + n; ended = eqb n 0; failed = None }
 
 -- ---- a turn
 

@@ -12,7 +12,7 @@ use Rattle.logitems.specs.declared.Item.{Item}
 use Rattle.logitems.specs.declared.Found.{Found}
 use Rattle.logitems.specs.declared.Found.TheVariants as found
 use Rattle.logitems.proofs.Finding.{whole, short, bad, end}
-use Rattle.logeffects.specs.Book.{Memory}
+use Rattle.logeffects.specs.declared.Memory.{Memory}
 use Rattle.logprogram.specs.Program.{Place, turn_on, stands_at, turn}
 use Rattle.logprogram.specs.Reads.{Midway, passed, Ran, begun, taken, more}
 use Rattle.logprogram.proofs.Turns.{StandsAt, found_at}
@@ -20,7 +20,7 @@ use Rattle.meterlog.specs.Buffer.{hand, midway, Inside, Ended}
 use Rattle.meterlog.specs.Buffer as run
 use Rattle.meterlog.specs.Telling.{word_at, word_for}
 use Rattle.meterlog.specs.declared.Progress.{Progress}
-use Rattle.meterlog.specs.declared.Failed.TheVariants.{Nothing}
+use Rattle.std.proofs.Common.{None}
 use Rattle.meterlog.specs.declared.Word.{Word}
 use Rattle.meterlog.specs.declared.Word.TheVariants as word
 
@@ -69,11 +69,11 @@ last_turn (taken {m = m} r g s) h =
     (found_tells m.place m.hand m.ended (stands_at m.place m.hand m.ended) (found_at m.place m.hand m.ended) (none_refused r g) s h)
 last_turn (more r g s bytes) h = absurd (subst T (sym g ∙ h) tt)
 
-ended_last : {x : Midway} → Ended x Nothing → x.place.going ≡ false → Last x (word_at x.place.book.phase (length x.hand))
+ended_last : {x : Midway} → Ended x None → x.place.going ≡ false → Last x (word_at x.place.book.phase (length x.hand))
 ended_last (run.whole r _) h = last_turn r h
 ended_last (run.broken _ _ _ some) h = absurd (some refl)
 
-pub word_true : (p : Progress) (bytes : List ℕ) (m : Memory) → Inside p bytes → Ended (midway p bytes m) p.failed → p.failed ≡ Nothing
+pub word_true : (p : Progress) (bytes : List ℕ) (m : Memory) → Inside p bytes → Ended (midway p bytes m) p.failed → p.failed ≡ None
     → p.mark.going ≡ false → Last (midway p bytes m) (word_for p)
 word_true p bytes m i e f g =
     let left = p.to - p.from in

@@ -13,10 +13,7 @@ fn word_at(phase: Phase, left: usize) -> Word
     if !goes_on(phase) {
         return Word::RefusedStart;
     }
-    if left != 0 {
-        return Word::BadLog;
-    }
-    if may_end(phase) {
+    if left == 0 && may_end(phase) {
         return Word::Silence;
     }
     Word::BadLog
@@ -27,17 +24,13 @@ pub fn word_for(p: Progress) -> Word
     requires { p.from ≤ p.to }
     ensures { result ≡ word_for p }
 {
-    let failed = p.failed;
-    let mark = p.mark;
-    if mark.going {
+    if p.mark.going {
         return Word::Silence;
     }
-    let book = mark.book;
-    let phase = book.phase;
-    match failed {
-        Failed::Nothing => word_at(phase, p.to - p.from),
-        Failed::Writing => Word::Silence,
-        Failed::Reading => Word::BadLog,
+    match p.failed {
+        None => word_at(p.mark.book.phase, p.to - p.from),
+        Some(Failed::Writing) => Word::Silence,
+        Some(Failed::Reading) => Word::BadLog,
     }
 }
 

@@ -1,13 +1,13 @@
--- Text written to a buffer: a byte, a word byte by byte, a number's digits from the last, and one text after another. Assumes nothing.
-use mathlib.Core.Path.{◌≡◌, refl, sym, ap, ap₂, ◌∙◌}
+-- Text written to a buffer: one text after another, and a number's digits from the last. Assumes nothing.
+use mathlib.Core.Path.{◌≡◌, sym, ap, ap₂, ◌∙◌}
 use mathlib.Core.List.{List, [], ◌∷◌, ◌++◌, append_assoc, append-nil}
 use Prim.Native.Nat.{ℕ, zero, suc, ◌+◌, ◌-◌, ◌/◌, ◌%◌, ◌^◌, ◌≤◌, ◌<◌}
 use native.Mathlib.Nat.{div-lt_iff_lt-mul, pow-suc}
-use native.Mathlib.Numerals.{add-one, sub-one}
+use native.Mathlib.Numerals.{sub-one}
 use native.Mathlib.Omega.{arith}
 use borrow.Author.Tests.{lt-ltb, le-ltb}
-use lib.ListN.{length, take, drop, get_or, set, length-append, length-take, length-drop, length-set}
-use lib.Seq.{take-suc, take-suc-set, take_all, take-length, drop-cons, drop-length, drop-set-lt, get_or-set_same}
+use lib.ListN.{length, take, drop, set, length-append, length-set}
+use lib.Seq.{drop-cons, drop-length, drop-set-lt, get_or-set_same}
 use Rattle.report.specs.Lines.{digits, decimal, Wrote}
 
 -- ---- one text after another
@@ -15,44 +15,12 @@ use Rattle.report.specs.Lines.{digits, decimal, Wrote}
 pub wrote_none : (k : ℕ) (l : List ℕ) → Wrote [] k l k l
 wrote_none k l = record { is = sym (append-nil (take k l)); size = omega arith }
 
-pub wrote_byte : (b k : ℕ) (l : List ℕ) → k < length l → Wrote (b ∷ []) k l (k + 1) (set l k b)
-wrote_byte b k l h = record { is = rw add-one (take-suc-set l k b h); size = refl }
-
 pub wrote_more : {a b : List ℕ} {k m n : ℕ} {l s t : List ℕ} → Wrote a k l m s → Wrote b m s n t → Wrote (a ++ b) k l n t
 wrote_more {a} {b} {k} {m} {n} {l} {s} {t} v w =
     record {
       is = w.is ∙ ap (λ x. x ++ b) v.is ∙ append_assoc (take k l) a b;
       size = rw (length-append a b) (omega (arith, v.size, w.size));
     }
-
-pub wrote_three : {a b c : List ℕ} {k m n o : ℕ} {l s t u : List ℕ} → Wrote a k l m s → Wrote b m s n t → Wrote c n t o u → Wrote (a ++ b ++ c) k l o u
-wrote_three v w x = wrote_more (wrote_more v w) x
-
-pub wrote_two : (a b : List ℕ) {x : List ℕ} {k m n : ℕ} {l s t : List ℕ} → Wrote x k l m s → Wrote (a ++ b) m s n t → Wrote (x ++ a ++ b) k l n t
-wrote_two a b {x} v w = rw (append_assoc x a b) (wrote_more v w)
-
--- a text from the front of a buffer lies in it
-pub wrote_inside : {text : List ℕ} {n : ℕ} {l s : List ℕ} → Wrote text 0 l n s → n ≤ length s
-wrote_inside {text} {n} {l} {s} w = omega (arith, simp length-take at (ap length w.is), w.size)
-
--- the end of a room, as a part of it
-pub wrote_tail : (size from : ℕ) (room : List ℕ) {text : List ℕ} → length room ≡ size → drop from room ≡ text → {k n : ℕ} {l s : List ℕ}
-    → Wrote (take (size - from) (drop from room)) k l n s → Wrote text k l n s × (n ≤ k + size)
-wrote_tail size from room e t {k} {n} {l} {s} w =
-    let q : length (drop from room) ≤ size - from = simp length-drop (omega arith) in
-    let p : take (size - from) (drop from room) ≡ drop from room = take_all (size - from) (drop from room) q in
-    (rw (p, t) at w, omega (arith, rw p at w.size))
-
--- a word, byte by byte
-pub wrote_next : (word : List ℕ) (i k : ℕ) {l s : List ℕ} → Wrote (take i word) k l (k + i) s → i < length word → k + i < length s
-    → Wrote (take (i + 1) word) k l (k + (i + 1)) (set s (k + i) (get_or word i 0))
-wrote_next word i k {l} {s} w h r =
-    let e : k + i + 1 ≡ k + (i + 1) = omega arith in
-    let t : take (i + 1) word ≡ take i word ++ (get_or word i 0 ∷ []) = rw (add-one i) (take-suc word i 0 h) in
-    rw (t, sym e) (wrote_more w (wrote_byte (get_or word i 0) (k + i) s r))
-
-pub wrote_all : (word : List ℕ) (i k : ℕ) {l s : List ℕ} → Wrote (take i word) k l (k + i) s → i ≡ length word → Wrote word k l (k + i) s
-wrote_all word i k {l} {s} w e = let t : take i word ≡ word = rw e (take-length word) in rw t at w
 
 -- ---- a number's digits, the last first
 

@@ -1,5 +1,5 @@
 -- Document 01, "The log program", "Lines", and document 02, request 9: what is printed, byte by byte in ASCII. Assumes nothing.
-use Rattle.std.specs.Prelude.{◌≡◌, List, [], ◌∷◌, ◌++◌, cond, ℕ, zero, suc, ◌+◌, ◌/◌, ◌%◌, eqb, ltb, ℤ, pos, nat_abs, length, take}
+use Rattle.std.specs.Prelude.{◌≡◌, List, [], ◌∷◌, ◌++◌, cond, ℕ, zero, suc, ◌+◌, ◌/◌, ◌%◌, eqb, ltb, ◌≤◌, ℤ, pos, nat_abs, length, take}
 use Prim.Native.Char.{code}
 use Rattle.std.specs.Int.Signed.{lt_z}
 use Rattle.sums.specs.Text.{ascii}
@@ -11,6 +11,7 @@ use Rattle.campaign.specs.declared.Verdict.TheVariants as verdict
 use Rattle.trend.specs.declared.Tally.{Tally}
 use Rattle.report.specs.declared.Line.{Line}
 use Rattle.report.specs.declared.Line.TheVariants as line
+use Rattle.report.specs.declared.Text.{Text}
 
 -- ---- numbers
 
@@ -94,3 +95,11 @@ bad_bytes offset = one_line (ascii "bad") offset
 pub record Wrote (text : List ℕ) (at : ℕ) (before : List ℕ) (next : ℕ) (after : List ℕ) : Type 0 where
   pub is : take next after ≡ take at before ++ text
   pub size : next ≡ at + length text
+
+-- put behind what is in a text
+abbrev pub Added : List ℕ → Text → Text → Type 0
+Added text before after = Wrote text before.length before.bytes after.length after.bytes
+
+-- all that is in a text
+abbrev pub Spells : List ℕ → Text → Type 0
+Spells bytes t = (take t.length t.bytes ≡ bytes) × (t.length ≤ 128)

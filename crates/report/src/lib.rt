@@ -24,7 +24,7 @@ pub enum Line {
 // Room for the longest line.
 pub const LINE_ROOM: usize = 128;
 
-// A line's bytes: the first `length` of them.
+// A line's bytes: the first `length` of them, as there is no heap for a `String`. A `write!` promises its text only where it succeeds, and a line cannot fail.
 #[derive(Clone, Copy)]
 pub struct Text {
     pub bytes: [u8; LINE_ROOM],

@@ -1,10 +1,10 @@
 -- `logeffects::applying::enter_day` meets its contract. Assumes nothing.
-use mathlib.Core.Path.{◌≡◌, refl, sym, ap, ◌∙◌}
+use mathlib.Core.Path.{◌≡◌, sym, ap, ◌∙◌}
 use mathlib.Core.List.{List}
 use Prim.Native.Nat.{ℕ}
 use lib.IntN.{ℤ}
 use lib.ListN.{take}
-use lib.Seq.{take_all}
+use Rattle.std.proofs.lemmas.List.{take_min}
 use Rattle.sums.specs.Refusals.{first}
 use Rattle.nights.specs.declared.Night.{Night}
 use Rattle.records.specs.declared.Campaign.{Campaign}
@@ -32,14 +32,8 @@ returns-then-refusal-ne0 c =
     refused a.c a.day a.night a.n a.store.now a.sums.now a.recording.now c.night_refusal-refusal.result c.night_refusal-refusal.ensures
     c.if-refusal-ne0.true c.entered_by.ensures
 
-pub returns-then-n-recording : goal.returns-then-n-recording
-returns-then-n-recording c =
-    let a = c.args in
-    of-the-first a.c a.day a.night a.n a.store.now a.sums.now a.recording.now c.night_refusal-refusal.result c.night_refusal-refusal.ensures
-    c.if-refusal-ne0.false refl c.entered_by-then-n-recording.ensures c.file_night.ensures
-
 pub returns : goal.returns
 returns c =
     let a = c.args in
     of-the-first a.c a.day a.night a.n a.store.now a.sums.now a.recording.now c.night_refusal-refusal.result c.night_refusal-refusal.ensures
-    c.if-refusal-ne0.false (sym (take_all a.n a.recording.now c.if-n-recording.false)) c.entered_by-2.ensures c.file_night-2.ensures
+    c.if-refusal-ne0.false (ap (λ k. take k a.recording.now) c.min-came.ensures ∙ take_min a.n a.recording.now) c.entered_by-2.ensures c.file_night.ensures

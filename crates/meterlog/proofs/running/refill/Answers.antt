@@ -3,8 +3,7 @@ use Prim.Native.Nat.{◌-◌, ◌≤◌}
 use native.Mathlib.Omega.{arith}
 use borrow.Rule.Slice.PartMut.{same_len_mid}
 use lib.ListN.{length, length-take, length-drop}
-use mir.Syntax.{w64}
-use mir.Val.{to_z, of_z}
+use Rattle.std.specs.Prelude.{is_some, unwrap_or}
 use Rattle.meterlog.proofs.Behind.{refilled}
 use Rattle.meterlog.proofs.running.refill.Goals as goal
 
@@ -19,5 +18,5 @@ returns g c =
     let whole = same_len_mid left (length front - left) front part k in
     let l : left ≤ length front = omega (arith, c.requires, c.to_front.auto.bytes) in
     rw c.received.ensures
-    (refilled p (to_z w64 (of_z w64 c.read_once-came.result.got)) c.read_once-came.result.n c.args.bytes.now front part _ l c.read_once-came.ensures c.to_front.ensures
+    (refilled p (is_some c.read_once-came.result) (unwrap_or c.read_once-came.result 0) c.args.bytes.now front part _ l c.read_once-came.ensures c.to_front.ensures
     (omega (arith, c.read_once-came.ensures, whole, simp (length-take, length-drop) at k)))
