@@ -3,7 +3,8 @@
 use Rattle.std.specs.Prelude.{List, [], ◌∷◌, ◌++◌, Bool, true, false, not, ◌&&◌, ◌||◌, ℕ, ◌*◌, eqb, ltb, ℤ, pos, ◌+ℤ◌, ◌-ℤ◌, length, Option, None, Some}
 use Rattle.sums.specs.Lists.{at, table, put, put_at, seek}
 use Rattle.sums.specs.Refusals.{outcome, Meaning, accepts, refuses}
-use Rattle.refusals.specs.Causes.{Answer, answer, said}
+use Rattle.refusals.specs.Causes.{answer, said}
+use Rattle.refusals.specs.declared.Answer.{Answer}
 use Rattle.register.specs.Register.{P}
 use Rattle.register.specs.Calls.{taps_checks, answer_of}
 use Rattle.samples.specs.Samples.{cleared_wide}

@@ -37,7 +37,7 @@ use Rattle.register.proofs.OddTaps.{accepted_maximal}
 use Rattle.register.specs.Calls.{order_out, told, answer_of, shape_checks, taps_checks, taps_answer, sequence_checks, sequence_outcome}
 use Rattle.register.proofs.HowShort.{Tells}
 use Rattle.register.proofs.HowShort as short
-use Rattle.refusals.specs.Causes.{Answer}
+use Rattle.refusals.specs.declared.Answer.{Answer}
 use Rattle.std.specs.Prelude.{Ok, Err}
 use Rattle.refusals.specs.Causes.{result_number}
 use Rattle.defaults.specs.Calls.{default_outcome}

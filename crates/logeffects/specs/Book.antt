@@ -1,6 +1,6 @@
 -- Document 01, "The log program", and document 02, requests 1, 5 and 9: what each item does to the state between items and to the memory, and the line
 -- that it makes, by the campaign's calls. Assumes nothing.
-use Rattle.std.specs.Prelude.{List, [], ◌∷◌, ◌++◌, Bool, cond, ◌&&◌, ◌||◌, ℕ, ltb, leb, ℤ, take, set}
+use Rattle.std.specs.Prelude.{List, [], ◌∷◌, ◌++◌, Bool, cond, ◌&&◌, ◌||◌, ℕ, ltb, leb, ℤ, take, set, Result, Ok, Err}
 use Rattle.sums.specs.Refusals.{answered, outcome}
 use Rattle.register.specs.Register.{P}
 use Rattle.register.specs.Calls.{taps_checks, answer_of}
@@ -18,8 +18,6 @@ use Rattle.campaign.specs.declared.Entered.{Entered}
 use Rattle.campaign.specs.Calls.{Withdrawn}
 use Rattle.trend.specs.Calls.{counts_outcome, response_outcome}
 use Rattle.trend.specs.declared.Tally.{Tally}
-use Rattle.trend.specs.declared.Counts.{Counts}
-use Rattle.trend.specs.declared.Counts.TheVariants as counts
 use Rattle.logitems.specs.Phases.{first_phase, after_other, after_start, after_edition, after_open, after_sample, after_enter}
 use Rattle.logitems.specs.declared.Phase.{Phase}
 use Rattle.logitems.specs.declared.Phase.TheVariants as phase
@@ -121,11 +119,11 @@ withdrew_outcome c d store sums = over (withdrawn_by d) (withdraw_outcome c stor
 
 -- ---- the response is asked for, with the counts; P lines follow where it is not refused
 
-abbrev pub tallied : Counts → Tally
-tallied (counts.Counted t) = t
-tallied (counts.Refused n) = record { unseen = 0; standing = 0; overloaded = 0; dead = 0; withdrawn = 0 }
+abbrev pub tallied : Result Tally ℕ → Tally
+tallied (Ok t) = t
+tallied (Err n) = record { unseen = 0; standing = 0; overloaded = 0; dead = 0; withdrawn = 0 }
 
-abbrev pub asked_by : Campaign → Counts → ℕ → Applied
+abbrev pub asked_by : Campaign → Result Tally ℕ → ℕ → Applied
 asked_by c n answer =
     record {
       book = record { phase = after_other; campaign = c };
@@ -133,7 +131,7 @@ asked_by c n answer =
       rows = answered answer (λ _. 0) (day_length c.order);
     }
 
-abbrev pub asks : Campaign → Counts → ℕ × List ℤ × List ℤ × List ℤ × List ℕ → Applied × List ℤ × List ℤ × List ℤ × List ℕ
+abbrev pub asks : Campaign → Result Tally ℕ → ℕ × List ℤ × List ℤ × List ℤ × List ℕ → Applied × List ℤ × List ℤ × List ℤ × List ℕ
 asks c n o = (asked_by c n o.0, o.1, o.2, o.3, o.4)
 
 abbrev pub asked_outcome : Campaign → List ℤ → List ℤ → List ℤ → List ℤ → List ℤ → List ℕ → Applied × List ℤ × List ℤ × List ℤ × List ℕ

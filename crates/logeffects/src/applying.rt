@@ -1,6 +1,9 @@
 // What an item does to the state and the memory, and the line that it makes.
 ghost use Rattle.std.specs.Prelude.{◌≡◌, true};
 ghost use Rattle.sums.specs.Refusals.{first};
+ghost use Rattle.refusals.specs.Causes.{answer, numbered, said as said_of};
+ghost use Rattle.register.specs.Calls.{answer_of};
+ghost use Rattle.campaign.specs.Calls.{started_as, withdrawn_as};
 ghost use Rattle.logitems.specs.Kinds.{kind_sample};
 ghost use Rattle.logitems.specs.Phases.{may_stand};
 ghost use Rattle.logitems.specs.Log.{kind_of};
@@ -23,13 +26,13 @@ use records::filing::blank;
 use records::tables::outside;
 use records::{Campaign, LAST_DAY, MOST_SLOTS};
 use register::shift::full_period;
-use register::taps::taps_refusal;
-use register::telling::tell;
+use refusals::{Answer, Refusal, told};
+use register::taps::check_taps;
 use report::Line;
 use rounding::AWAY_FROM_ZERO;
 use trend::answering::response;
 use trend::counting::counts;
-use trend::{Counts, Tally};
+use trend::Tally;
 
 // The state before the first item.
 pub fn unbegun() -> Book
@@ -48,21 +51,18 @@ fn too_large(order: u32, capacity: u32) -> bool
     LOG_ORDER < order || LOG_SLOTS < capacity
 }
 
-// The first of 1, 2, 3, 4, 9, 17 that refuses a start, and 0 where none does.
-fn start_refusal(order: u32, taps: u32, capacity: u32) -> u32
-    ensures { result ≡ first (log_start_checks order taps capacity) }
+// The checks 1, 2, 3, 4, 9 and 17 of a start, and the period where none refuses.
+fn check_start(order: u32, taps: u32, capacity: u32) -> Result<u32, Refusal>
+    ensures { said_of result ≡ answer_of order taps (first (log_start_checks order taps capacity)) }
 {
-    let refusal = taps_refusal(order, taps);
-    if refusal != 0 {
-        return refusal;
-    }
+    let period = check_taps(order, taps)?;
     if outside(capacity, MOST_SLOTS) {
-        return 9;
+        return Err(Refusal::Slots);
     }
     if too_large(order, capacity) {
-        return 17;
+        return Err(Refusal::Program);
     }
-    0
+    Ok(period)
 }
 
 // A day has P samples, for the orders that the program takes.
@@ -87,13 +87,12 @@ fn say(phase: Phase, campaign: Campaign, line: Line) -> Applied
 }
 
 fn started_by(s: Started) -> Applied
-    ensures { result ≡ started_by s }
+    ensures { result ≡ started_by (started_as s) }
 {
-    let answer = s.answer;
-    let campaign = s.campaign;
+    let answer = Answer::from(s.answer);
     say(
         after_answer(true, answer.number),
-        campaign,
+        s.campaign,
         Line::Started(answer),
     )
 }
@@ -109,10 +108,10 @@ fn begin(
 ) -> Applied
     ensures { (result, store.new, sums.new) ≡ began_outcome c order taps capacity store.old sums.old }
 {
-    let refusal = start_refusal(order, taps, capacity);
-    if refusal != 0 {
+    let checked = check_start(order, taps, capacity);
+    if checked.is_err() {
         return started_by(Started {
-            answer: tell(order, taps, refusal),
+            answer: checked,
             campaign: c,
         });
     }
@@ -120,13 +119,12 @@ fn begin(
 }
 
 fn edition_by(s: Started) -> Applied
-    ensures { result ≡ edition_by s }
+    ensures { result ≡ edition_by (started_as s) }
 {
-    let answer = s.answer;
-    let campaign = s.campaign;
+    let answer = Answer::from(s.answer);
     say(
         after_answer(false, answer.number),
-        campaign,
+        s.campaign,
         Line::Edition(answer.number),
     )
 }
@@ -135,10 +133,7 @@ fn edition_by(s: Started) -> Applied
 fn restart(c: Campaign, edition: u32, store: &mut [i32], sums: &mut [i64]) -> Applied
     ensures { (result, store.new, sums.new) ≡ edition_outcome c edition store.old sums.old }
 {
-    let order = c.order;
-    let taps = c.taps;
-    let capacity = c.capacity;
-    edition_by(start(c, order, taps, capacity, edition, store, sums))
+    edition_by(start(c, c.order, c.taps, c.capacity, edition, store, sums))
 }
 
 // Whether the samples of a night of m periods are counted and not kept.
@@ -173,29 +168,27 @@ fn take_sample(book: Book, v: i32, recording: &mut [i32]) -> Phase
     phase
 }
 
-// The first of 10, 18, 17 that refuses a night whose samples are not kept, and 0 where they are.
-fn night_refusal(day: u32, night: Night) -> u32
-    ensures { result ≡ first (log_enter_checks day night) }
+// The checks 10, 18 and 17 of a night, whose samples are kept where none refuses.
+fn check_night(day: u32, night: Night) -> Result<(), Refusal>
+    ensures { answer result ≡ first (log_enter_checks day night) }
 {
     let m = periods_of(night);
     if !not_held(m) {
-        return 0;
+        return Ok(());
     }
     if outside(day, LAST_DAY) {
-        return 10;
+        return Err(Refusal::Day);
     }
     if outside(m, MOST_PERIODS) {
-        return 18;
+        return Err(Refusal::Periods);
     }
-    17
+    Err(Refusal::Program)
 }
 
 fn entered_by(e: Entered) -> Applied
     ensures { result ≡ entered_by e }
 {
-    let entry = e.entry;
-    let campaign = e.campaign;
-    say(after_enter(), campaign, Line::Entered(entry))
+    say(after_enter(), e.campaign, Line::Entered(e.entry))
 }
 
 // The night is judged, and then filed with the verdict that this gave.
@@ -209,11 +202,8 @@ fn file_night(
 ) -> Entered
     ensures { (result, store.new, sums.new) ≡ judged_then_filed c day night store.old sums.old y.now }
 {
-    let order = c.order;
-    let taps = c.taps;
-    let judgement = judge(order, taps, night, y);
-    let verdict = judgement.verdict;
-    file(c, store, sums, day, night, y, verdict)
+    let judgement = judge(c.order, c.taps, night, y);
+    file(c, store, sums, day, night, y, judgement.verdict)
 }
 
 // The open day's recording is judged and filed, refusing 10, 18, 17 where its samples are not kept, and the day is closed.
@@ -228,12 +218,11 @@ fn enter_day(
 ) -> Applied
     ensures { (result, store.new, sums.new) ≡ entered_outcome c day night n store.old sums.old recording.now }
 {
-    let refusal = night_refusal(day, night);
-    if refusal != 0 {
+    if let Err(refusal) = check_night(day, night) {
         return entered_by(Entered {
             entry: Entry {
                 day,
-                verdict: Verdict::Refused(refusal),
+                verdict: Verdict::Refused(refusal.number()),
             },
             campaign: c,
         });
@@ -258,11 +247,13 @@ fn close(
 }
 
 fn withdrawn_by(day: u32, w: Withdrawn) -> Applied
-    ensures { result ≡ withdrawn_by day w }
+    ensures { result ≡ withdrawn_by day (withdrawn_as w) }
 {
-    let answer = w.answer;
-    let campaign = w.campaign;
-    say(after_other(), campaign, Line::Withdrawn(day, answer))
+    say(
+        after_other(),
+        w.campaign,
+        Line::Withdrawn(day, told(w.answer)),
+    )
 }
 
 fn withdraw_day(c: Campaign, day: u32, store: &mut [i32], sums: &mut [i64]) -> Applied
@@ -271,12 +262,12 @@ fn withdraw_day(c: Campaign, day: u32, store: &mut [i32], sums: &mut [i64]) -> A
     withdrawn_by(day, withdraw(c, store, sums, day))
 }
 
-fn tally_or_none(counted: Counts) -> Tally
-    ensures { result ≡ tallied counted }
+fn tally_or_none(counted: Result<Tally, Refusal>) -> Tally
+    ensures { result ≡ tallied (numbered counted) }
 {
     match counted {
-        Counts::Counted(tally) => tally,
-        Counts::Refused(_) => Tally {
+        Ok(tally) => tally,
+        Err(_) => Tally {
             unseen: 0,
             standing: 0,
             overloaded: 0,
@@ -299,23 +290,22 @@ fn ask(c: Campaign, m: &mut Memory) -> Applied
         &mut m.tags,
     );
     let tally = tally_or_none(counts(c, &m.store, &m.sums));
-    let line = Line::Answered(answer, tally);
+    let line = Line::Answered(told(answer), tally);
     let book = Book {
         phase: after_other(),
         campaign: c,
     };
-    if answer != 0 {
+    if answer.is_err() {
         return Applied {
             book,
             line,
             rows: 0,
         };
     }
-    let order = c.order;
     Applied {
         book,
         line,
-        rows: day_length(order),
+        rows: day_length(c.order),
     }
 }
 

@@ -16,7 +16,7 @@ use Rattle.sums.proofs.First.{passes, or-false, outcome_cases}
 use Rattle.sums.proofs.Tables.{length-put, length-table}
 use Rattle.register.specs.Register.{P}
 use Rattle.register.specs.Calls.{answer_of}
-use Rattle.refusals.specs.Causes.{Answer}
+use Rattle.refusals.specs.declared.Answer.{Answer}
 use Rattle.rounding.specs.Rounding.{away_from_zero}
 use Rattle.nights.specs.Nights.{periods_of}
 use Rattle.nights.specs.declared.Night.{Night}

@@ -17,7 +17,7 @@ use Rattle.sums.specs.Text.{ascii}
 use Rattle.sums.specs.Refusals.{first, answered}
 use Rattle.register.specs.Register.{P, wave, period}
 use Rattle.register.specs.Calls.{told, answer_of}
-use Rattle.refusals.specs.Causes.{Answer}
+use Rattle.refusals.specs.declared.Answer.{Answer}
 use Rattle.register.proofs.HowShort.{how_short}
 use Rattle.register.proofs.Judged.{FirstReturn}
 use Rattle.response.specs.Response.{prediction}

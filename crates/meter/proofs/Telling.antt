@@ -8,7 +8,7 @@ use lib.Dec.{eqb}
 use Rattle.sums.proofs.Seek.{seek-first}
 use Rattle.register.specs.Register.{P, window, period}
 use Rattle.register.specs.Calls.{told}
-use Rattle.refusals.specs.Causes.{Answer}
+use Rattle.refusals.specs.declared.Answer.{Answer}
 
 -- no register returns after 0 steps
 some_steps : (N taps : ℕ) → period N taps ≡ 0 → ⊥

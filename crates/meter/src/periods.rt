@@ -2,7 +2,7 @@
 ghost use Rattle.std.specs.Prelude.{◌≡◌, cond, eqb};
 ghost use Rattle.refusals.specs.Causes.{answer as number_of, answer_period};
 
-use refusals::Refusal;
+use refusals::{Answer, Refusal};
 
 // A period that is told, which is never 0, is written; where none is, what was there stays.
 pub fn write_period(told: u32, period: &mut u32)
@@ -17,14 +17,7 @@ pub fn write_period(told: u32, period: &mut u32)
 pub fn write_answer(answer: Result<u32, Refusal>, period: &mut u32) -> u32
     ensures { (result ≡ number_of answer) × (period.new ≡ cond (eqb (answer_period answer) 0) period.old (answer_period answer)) }
 {
-    match answer {
-        Ok(steps) => {
-            write_period(steps, period);
-            0
-        }
-        Err(refusal) => {
-            write_period(refusal.steps(), period);
-            refusal.number()
-        }
-    }
+    let told = Answer::from(answer);
+    write_period(told.period, period);
+    told.number
 }

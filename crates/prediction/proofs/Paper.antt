@@ -10,7 +10,7 @@ use Rattle.sums.specs.Sum.{sum, sign}
 use Rattle.sums.specs.Lists.{seek, some, table, put}
 use Rattle.register.specs.Register.{dot, step, window, bit, wave, period}
 use Rattle.register.specs.Calls.{answer_of, taps_answer, sequence_outcome}
-use Rattle.refusals.specs.Causes.{Answer}
+use Rattle.refusals.specs.declared.Answer.{Answer}
 use Rattle.response.specs.Response.{correlation, response, prediction}
 use Rattle.response.specs.Calls.{recording_outcome}
 use Rattle.prediction.specs.Calls.{prediction_outcome}

@@ -3,7 +3,8 @@ use Rattle.std.proofs.Common.{ℕ, ◌≡◌, refl, sym, ap, ap₂, ◌∙◌, a
 use Rattle.std.specs.Result.{IsErrAnd}
 use mathlib.Core.Bool.{true≢false}
 use lib.Dec.{eqb}
-use Rattle.refusals.specs.Causes.{number, steps, answer, numbered, result_number, answer_period, said, Answer}
+use Rattle.refusals.specs.Causes.{number, steps, answer, numbered, result_number, answer_period, said}
+use Rattle.refusals.specs.declared.Answer.{Answer}
 use Rattle.refusals.specs.declared.Refusal.{Refusal}
 use Rattle.refusals.specs.declared.Refusal.TheVariants as refusal
 

@@ -1,6 +1,7 @@
 -- Document 01, "Refusal numbers": each cause and its number, and an answer in the paper's numbers. Assumes nothing.
 use Rattle.std.specs.Prelude.{ℕ, Result, Ok, Err}
 use Rattle.sums.specs.Refusals.{Meaning, accepts, refuses}
+use Rattle.refusals.specs.declared.Answer.{Answer}
 use Rattle.refusals.specs.declared.Refusal.{Refusal}
 use Rattle.refusals.specs.declared.Refusal.TheVariants as refusal
 
@@ -48,12 +49,8 @@ means (Err n) = refuses n
 abbrev pub result_number : {A : Type 0} → Result A ℕ → ℕ
 result_number r = (means r).0
 
--- ---- an answer of a call that asks for maximal taps
-
--- its number, and the steps after which the register first returns to all ones, where it is accepted and where 4 refuses it, else 0
-pub record Answer : Type 0 where
-  pub number : ℕ
-  pub period : ℕ
+-- ---- an answer of a call that asks for maximal taps: its number, and the steps after which the register first returns to all ones, where it is accepted
+-- and where 4 refuses it, else 0
 
 -- the steps that a refusal tells
 abbrev pub steps : Refusal → ℕ

@@ -2,7 +2,7 @@
 #![tactic(auto)]
 
 ghost use Rattle.std.specs.Prelude.{◌≡◌};
-ghost use Rattle.refusals.specs.Causes.{number as number_of, steps as steps_of, answer};
+ghost use Rattle.refusals.specs.Causes.{number as number_of, steps as steps_of, answer, said};
 
 #[derive(Clone, Copy, Debug, PartialEq, Eq)]
 pub enum Refusal {
@@ -86,6 +86,28 @@ impl Refusal {
         match self {
             Refusal::NotMaximal(steps) => steps,
             _ => 0,
+        }
+    }
+}
+
+// An answer of a call that asks for maximal taps, in numbers: 0 or the refusal's number; and the steps after which the register first returns to all ones, where
+// it is accepted and where 4 refuses it. At any other refusal the period is 0.
+#[derive(Clone, Copy, Debug, PartialEq, Eq)]
+pub struct Answer {
+    pub number: u32,
+    pub period: u32,
+}
+
+impl From<Result<u32, Refusal>> for Answer {
+    ghost from_gives = { λ outcome result. result ≡ said outcome };
+
+    fn from(outcome: Result<u32, Refusal>) -> Answer {
+        match outcome {
+            Ok(period) => Answer { number: 0, period },
+            Err(refusal) => Answer {
+                number: refusal.number(),
+                period: refusal.steps(),
+            },
         }
     }
 }

@@ -9,7 +9,8 @@ use lib.Dec.{eqb}
 use Rattle.std.specs.Prelude.{Result, Ok, Err}
 use Rattle.sums.specs.Refusals.{first}
 use Rattle.sums.proofs.First.{not_first, refused_first, passed_first}
-use Rattle.refusals.specs.Causes.{Answer, number, steps, answer, answer_period, said}
+use Rattle.refusals.specs.Causes.{number, steps, answer, answer_period, said}
+use Rattle.refusals.specs.declared.Answer.{Answer}
 use Rattle.refusals.specs.declared.Refusal.{Refusal}
 use Rattle.refusals.specs.declared.Refusal.TheVariants.{NotMaximal}
 use Rattle.refusals.proofs.Causes.{never_0, no_steps}

@@ -16,7 +16,7 @@ use Rattle.sums.specs.Refusals.{first, outcome}
 use Rattle.sums.proofs.First.{lacks, not_first, refused_first, passed_first, answers_first}
 use Rattle.register.specs.Register.{P, dot, step, window, period, tag-step, tag, Shaped}
 use Rattle.register.specs.Calls.{not_maximal, told, answer_of, Reached, shape_checks, taps_checks, taps_answer}
-use Rattle.refusals.specs.Causes.{Answer}
+use Rattle.refusals.specs.declared.Answer.{Answer}
 use Rattle.register.proofs.Judged.{FirstReturn, first_return, maximal_period, shaped, passes_shape, accepted_exactly}
 
 module _ (N taps : ℕ) (more : List (ℕ × Bool)) where

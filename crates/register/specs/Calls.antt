@@ -3,7 +3,7 @@
 use Rattle.std.specs.Prelude.{◌≡◌, List, [], ◌∷◌, ◌++◌, Bool, cond, not, ◌||◌, ℕ, ◌%◌, ◌^◌, eqb, ltb, leb, length}
 use Rattle.sums.specs.Lists.{table, put}
 use Rattle.sums.specs.Refusals.{first, outcome}
-use Rattle.refusals.specs.Causes.{Answer}
+use Rattle.refusals.specs.declared.Answer.{Answer}
 use Rattle.register.specs.Register.{P, bit, period, Shaped, Accepted}
 
 -- ---- the causes, by their numbers

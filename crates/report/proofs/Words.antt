@@ -5,7 +5,7 @@ use mathlib.Core.List.{[]}
 use Prim.Native.Nat.{ℕ}
 use lib.IntN.{negsuc}
 use Rattle.sums.specs.Text.{ascii}
-use Rattle.refusals.specs.Causes.{Answer}
+use Rattle.refusals.specs.declared.Answer.{Answer}
 use Rattle.campaign.specs.declared.Verdict.TheVariants as verdict
 use Rattle.trend.specs.declared.Tally.{Tally}
 use Rattle.report.specs.declared.Line.TheVariants as line

@@ -3,7 +3,7 @@ use Rattle.std.specs.Prelude.{◌≡◌, List, [], ◌∷◌, ◌++◌, cond, �
 use Prim.Native.Char.{code}
 use Rattle.std.specs.Int.Signed.{lt_z}
 use Rattle.sums.specs.Text.{ascii}
-use Rattle.refusals.specs.Causes.{Answer}
+use Rattle.refusals.specs.declared.Answer.{Answer}
 use Rattle.campaign.specs.Calls.{verdict_number}
 use Rattle.campaign.specs.declared.Entry.{Entry}
 use Rattle.campaign.specs.declared.Verdict.{Verdict}

@@ -4,7 +4,7 @@
 pub mod printing;
 
 use campaign::Entry;
-use register::Answer;
+use refusals::Answer;
 use trend::Tally;
 
 // The line that an item makes.

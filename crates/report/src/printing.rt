@@ -6,7 +6,7 @@ ghost use Rattle.report.specs.Lines.{line_bytes, row_bytes, bad_bytes, Wrote, Ad
 
 use crate::{LINE_ROOM, Line, Text};
 use campaign::{Entry, Verdict};
-use register::Answer;
+use refusals::Answer;
 use trend::Tally;
 
 // The digits of the largest number, and the place of its last one.

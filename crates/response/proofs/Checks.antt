@@ -12,7 +12,8 @@ use Rattle.sums.specs.Refusals.{first, outcome}
 use Rattle.sums.proofs.First.{refused_first, passed_first, refused_early, passed_early, passes, accepts}
 use Rattle.samples.specs.Samples.{length_off, some_out}
 use Rattle.std.specs.Prelude.{Ok}
-use Rattle.refusals.specs.Causes.{Answer, said}
+use Rattle.refusals.specs.Causes.{said}
+use Rattle.refusals.specs.declared.Answer.{Answer}
 use Rattle.register.specs.Register.{P, period, Accepted}
 use Rattle.register.specs.Calls.{taps_checks, answer_of, taps_answer}
 use Rattle.register.proofs.HowShort.{period-told}

@@ -7,7 +7,8 @@ use lib.ListN.{drop}
 use Rattle.sums.specs.Refusals.{first}
 use Rattle.sums.proofs.First.{refused_with, accepted_with}
 use Rattle.std.specs.Prelude.{Ok, Err}
-use Rattle.refusals.specs.Causes.{Answer, said}
+use Rattle.refusals.specs.Causes.{said}
+use Rattle.refusals.specs.declared.Answer.{Answer}
 use Rattle.refusals.specs.declared.Refusal.{Refusal}
 use Rattle.refusals.proofs.Causes.{never_0}
 use Rattle.register.specs.Calls.{answer_of}

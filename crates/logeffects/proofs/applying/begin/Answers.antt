@@ -6,7 +6,7 @@ use lib.IntN.{ℤ}
 use Rattle.sums.specs.Refusals.{first}
 use Rattle.sums.proofs.First.{refused_with, accepted_with}
 use Rattle.register.specs.Calls.{answer_of}
-use Rattle.refusals.specs.Causes.{Answer}
+use Rattle.refusals.specs.declared.Answer.{Answer}
 use Rattle.rounding.specs.Rounding.{away_from_zero}
 use Rattle.records.specs.declared.Campaign.{Campaign}
 use Rattle.campaign.specs.Calls.{start_outcome}

@@ -7,7 +7,7 @@ use lib.IntN.{ℤ}
 use Rattle.sums.specs.Lists.{put}
 use Rattle.sums.specs.Refusals.{first}
 use Rattle.sums.proofs.First.{refused_with}
-use Rattle.refusals.specs.Causes.{Answer}
+use Rattle.refusals.specs.declared.Answer.{Answer}
 use Rattle.register.specs.Calls.{told, answer_of}
 use Rattle.register.proofs.HowShort.{period-told}
 use Rattle.records.specs.declared.Campaign.{Campaign}

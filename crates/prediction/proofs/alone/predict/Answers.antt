@@ -10,7 +10,8 @@ use lib.Dec.{ltb}
 use lib.IntN.{ℤ}
 use lib.ListN.{length}
 use Rattle.sums.proofs.First.{not_first, answers_first}
-use Rattle.refusals.specs.Causes.{Answer, number}
+use Rattle.refusals.specs.Causes.{number}
+use Rattle.refusals.specs.declared.Answer.{Answer}
 use Rattle.refusals.proofs.Causes.{never_0, exits}
 use Rattle.register.specs.Register.{P}
 use Rattle.register.proofs.HowShort.{period-told}

@@ -7,7 +7,7 @@ use lib.IntN.{ℤ}
 use lib.ListN.{length}
 use Rattle.sums.specs.Lists.{at, table, put}
 use Rattle.samples.specs.Samples.{room_short, cleared_wide, cleared_tags}
-use Rattle.refusals.specs.Causes.{Answer}
+use Rattle.refusals.specs.declared.Answer.{Answer}
 use Rattle.refusals.proofs.Causes.{never_0, exits}
 use Rattle.register.specs.Register.{P, wave}
 use Rattle.register.proofs.HowShort.{period-told}
