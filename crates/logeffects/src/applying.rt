@@ -25,14 +25,14 @@ use nights::{MOST_PERIODS, Night};
 use records::filing::blank;
 use records::tables::outside;
 use records::{Campaign, LAST_DAY, MOST_SLOTS};
-use register::shift::full_period;
 use refusals::{Answer, Refusal, told};
+use register::shift::full_period;
 use register::taps::check_taps;
 use report::Line;
 use rounding::AWAY_FROM_ZERO;
+use trend::Tally;
 use trend::answering::response;
 use trend::counting::counts;
-use trend::Tally;
 
 // The state before the first item.
 pub fn unbegun() -> Book

@@ -1,11 +1,13 @@
 -- `logeffects::applying::enter_day` meets its contract. Assumes nothing.
-use mathlib.Core.Path.{◌≡◌, sym, ap, ◌∙◌}
+use mathlib.Core.Path.{◌≡◌, refl, sym, ap, ◌∙◌}
 use mathlib.Core.List.{List}
 use Prim.Native.Nat.{ℕ}
 use lib.IntN.{ℤ}
 use lib.ListN.{take}
 use Rattle.std.proofs.lemmas.List.{take_min}
 use Rattle.sums.specs.Refusals.{first}
+use Rattle.refusals.specs.Causes.{number}
+use Rattle.refusals.proofs.Causes.{never_0}
 use Rattle.nights.specs.declared.Night.{Night}
 use Rattle.records.specs.declared.Campaign.{Campaign}
 use Rattle.campaign.specs.Calls.{entered}
@@ -26,14 +28,15 @@ module _ (c : Campaign) (d : ℕ) (night : Night) (n : ℕ) (store sums y : List
   of-the-first h q p o =
       rw p (ap (over entered_by) (o ∙ ap (judged_then_filed c d night store sums) q)) ∙ sym (passed_entry c d night n store sums y r told h)
 
-pub returns-then-refusal-ne0 : goal.returns-then-refusal-ne0
-returns-then-refusal-ne0 c =
+pub returns-in-Err : goal.returns-in-Err
+returns-in-Err c =
     let a = c.args in
-    refused a.c a.day a.night a.n a.store.now a.sums.now a.recording.now c.night_refusal-refusal.result c.night_refusal-refusal.ensures
-    c.if-refusal-ne0.true c.entered_by.ensures
+    let d = c.in-Err.refusal in
+    refused a.c a.day a.night a.n a.store.now a.sums.now a.recording.now (number d) c.in-Err.ensures (never_0 d)
+    (c.entered_by.ensures ∙ ap (λ n. entered_by (entered a.c a.day (verdict.Refused n))) c.number.ensures)
 
 pub returns : goal.returns
 returns c =
     let a = c.args in
-    of-the-first a.c a.day a.night a.n a.store.now a.sums.now a.recording.now c.night_refusal-refusal.result c.night_refusal-refusal.ensures
-    c.if-refusal-ne0.false (ap (λ k. take k a.recording.now) c.min-came.ensures ∙ take_min a.n a.recording.now) c.entered_by-2.ensures c.file_night.ensures
+    of-the-first a.c a.day a.night a.n a.store.now a.sums.now a.recording.now 0 c.in_default.ensures
+    refl (ap (λ k. take k a.recording.now) c.min-came.ensures ∙ take_min a.n a.recording.now) c.entered_by-2.ensures c.file_night.ensures
