@@ -315,6 +315,7 @@ pub fn apply(book: Book, item: Item, m: &mut Memory) -> Applied
     requires { may_stand book.phase (day_length book.campaign.order) (kind_of item) ≡ true }
     ensures { (result, m.new) ≡ applied book item m.old }
 {
+    let phase = book.phase;
     let c = book.campaign;
     match item {
         Item::Start(order, taps, capacity) => begin(
@@ -327,7 +328,7 @@ pub fn apply(book: Book, item: Item, m: &mut Memory) -> Applied
         ),
         Item::Open(day) => say(after_open(day, Night::Period), c, Line::Silent),
         Item::Sample(v) => say(take_sample(book, v, &mut m.recording), c, Line::Silent),
-        Item::Enter => close(book.phase, c, &mut m.store, &mut m.sums, &m.recording),
+        Item::Enter => close(phase, c, &mut m.store, &mut m.sums, &m.recording),
         Item::Withdraw(day) => withdraw_day(c, day, &mut m.store, &mut m.sums),
         Item::Ask => ask(c, m),
         Item::Capture(day, periods) => say(

@@ -12,7 +12,6 @@ pub struct Bookmark {
     pub book: Book,
     // The offset of the next kind byte.
     pub offset: u64,
-    // Whether it goes on: of a program that stopped the book still says where.
     pub going: bool,
 }
 

@@ -37,7 +37,6 @@ pub fn stop(mark: Bookmark) -> Bookmark
 }
 
 // A whole item that may stand there is applied, and its lines are written.
-#[tactic(auto, using(logeffects::proofs::Rows::rows_few))]
 fn take_item(mark: Bookmark, item: Item, size: usize, m: &mut Memory, out: &mut [u8]) -> Turned
     requires item_value { may_stand mark.book.phase (day_length mark.book.campaign.order) (kind_of item) ≡ true }
     requires size_bound { (size ≤ 5) × (mark.offset < 2 ^ 63) × (65536 ≤ length out.old) }

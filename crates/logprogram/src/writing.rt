@@ -1,4 +1,4 @@
-// What an item prints, one text behind another in the buffer lent: each function answers the place past what it put there, as there is no heap for a `Vec`.
+// What an item prints, one text behind another.
 ghost use Rattle.std.specs.Prelude.{◌++◌, ◌+◌, ◌*◌, ◌≤◌, length, take};
 ghost use Rattle.report.specs.Lines.{line_bytes, bad_bytes, Wrote};
 ghost use Rattle.logprogram.specs.Program.{rows_bytes};
