@@ -16,8 +16,7 @@ use Rattle.logitems.specs.declared.Phase.{Phase}
 use Rattle.logitems.specs.declared.Phase.TheVariants as phase
 use Rattle.logitems.specs.declared.Item.{Item}
 use Rattle.logitems.specs.declared.Item.TheVariants as item
-use Rattle.logeffects.specs.Book.{day_length, log_start_checks, began_outcome, log_enter_checks, entered_outcome, closed_outcome, applied}
-use Rattle.logeffects.specs.declared.Memory.{Memory}
+use Rattle.logeffects.specs.Book.{day_length, log_start_checks, began_outcome, log_enter_checks, entered_outcome, closed_outcome, Memory, applied}
 use Rattle.logeffects.specs.declared.Book.{Book}
 use Rattle.logeffects.specs.declared.Applied.{Applied}
 

@@ -1,4 +1,4 @@
--- Document 01, "The log program", and document 02, requests 1, 5 and 9: what each item does to the state between items and to the memory, and the line
+-- Document 01, "The log program", and document 02, requests 1, 5 and 9: what each item does to the state between items and to the memory lent, and the line
 -- that it makes, by the campaign's calls. Assumes nothing.
 use Rattle.std.specs.Prelude.{List, [], ◌∷◌, ◌++◌, Bool, cond, ◌&&◌, ◌||◌, ℕ, ltb, leb, ℤ, take, set, Result, Ok, Err}
 use Rattle.sums.specs.Refusals.{answered, outcome}
@@ -27,7 +27,6 @@ use Rattle.report.specs.declared.Line.{Line}
 use Rattle.report.specs.declared.Line.TheVariants as line
 use Rattle.logeffects.specs.declared.Book.{Book}
 use Rattle.logeffects.specs.declared.Applied.{Applied}
-use Rattle.logeffects.specs.declared.Memory.{Memory}
 
 -- a call's result made into what is said of it, the store and the sums as the call left them
 abbrev pub over : {A : Type 0} → (A → Applied) → A × List ℤ × List ℤ → Applied × List ℤ × List ℤ
@@ -139,7 +138,16 @@ asked_outcome c store sums r mean room tags = asks c (counts_outcome c store sum
 
 -- ---- any item
 
--- the memory: the store and the sums, the open day's recording, the response and the mean, the working room and the tags
+-- what is lent: the store and the sums, the open day's recording, the response and the mean, the working room and the tags
+pub record Memory : Type 0 where
+  pub store : List ℤ
+  pub sums : List ℤ
+  pub recording : List ℤ
+  pub r : List ℤ
+  pub mean : List ℤ
+  pub room : List ℤ
+  pub tags : List ℕ
+
 abbrev pub memory : List ℤ → List ℤ → List ℤ → List ℤ → List ℤ → List ℤ → List ℕ → Memory
 memory store sums recording r mean room tags =
     record { store = store; sums = sums; recording = recording; r = r; mean = mean; room = room; tags = tags }

@@ -1,4 +1,4 @@
-// What an item does to the state and the memory, and the line that it makes.
+// What an item does to the state and the memory lent, and the line that it makes.
 ghost use Rattle.std.specs.Prelude.{◌≡◌, true};
 ghost use Rattle.sums.specs.Refusals.{first};
 ghost use Rattle.refusals.specs.Causes.{answer, numbered, said as said_of};
@@ -8,9 +8,9 @@ ghost use Rattle.logitems.specs.Kinds.{kind_sample};
 ghost use Rattle.logitems.specs.Phases.{may_stand};
 ghost use Rattle.logitems.specs.Log.{kind_of};
 ghost use Rattle.logeffects.specs.Book.{unbegun_book, too_large, log_start_checks, day_length, said, started_by, began_outcome, edition_by, edition_outcome, unheld, kept_sample, took_sample};
-ghost use Rattle.logeffects.specs.Book.{log_enter_checks, judged_then_filed, entered_by, entered_outcome, closed_outcome, withdrawn_by, withdrew_outcome, tallied, asked_outcome, asking, applied};
+ghost use Rattle.logeffects.specs.Book.{log_enter_checks, judged_then_filed, entered_by, entered_outcome, closed_outcome, withdrawn_by, withdrew_outcome, tallied, asked_outcome, memory, applied};
 
-use crate::{Applied, Book, LOG_ORDER, LOG_PERIODS, LOG_SLOTS, Memory};
+use crate::{Applied, Book, LOG_ORDER, LOG_PERIODS, LOG_SLOTS};
 use campaign::entering::file;
 use campaign::starting::start;
 use campaign::withdrawing::withdraw;
@@ -277,19 +277,20 @@ fn tally_or_none(counted: Result<Tally, Refusal>) -> Tally
     }
 }
 
-fn ask(c: Campaign, m: &mut Memory) -> Applied
-    ensures { (result, m.new) ≡ asking m.old (asked_outcome c m.old.store m.old.sums m.old.r m.old.mean m.old.room m.old.tags) }
+fn ask(
+    c: Campaign,
+    store: &[i32],
+    sums: &[i64],
+    r: &mut [i64],
+    mean: &mut [i32],
+    room: &mut [i64],
+    tags: &mut [u16],
+) -> Applied
+    ensures { (result, r.new, mean.new, room.new, tags.new)
+        ≡ asked_outcome c store.now sums.now r.old mean.old room.old tags.old }
 {
-    let answer = response(
-        c,
-        &m.store,
-        &m.sums,
-        &mut m.r,
-        &mut m.mean,
-        &mut m.room,
-        &mut m.tags,
-    );
-    let tally = tally_or_none(counts(c, &m.store, &m.sums));
+    let answer = response(c, store, sums, r, mean, room, tags);
+    let tally = tally_or_none(counts(c, store, sums));
     let line = Line::Answered(told(answer), tally);
     let book = Book {
         phase: after_other(),
@@ -309,33 +310,33 @@ fn ask(c: Campaign, m: &mut Memory) -> Applied
     }
 }
 
-// The work of an item that may stand there, with the line that it makes.
+// The work of an item that may stand there, with the line that it makes. The memory is lent piece by piece: of a struct of lent slices the check takes no two that are
+// lent at once.
 #[tactic(auto, unfolding(crate::specs::Book::applied))]
-pub fn apply(book: Book, item: Item, m: &mut Memory) -> Applied
+pub fn apply(
+    book: Book,
+    item: Item,
+    store: &mut [i32],
+    sums: &mut [i64],
+    recording: &mut [i32],
+    r: &mut [i64],
+    mean: &mut [i32],
+    room: &mut [i64],
+    tags: &mut [u16],
+) -> Applied
     requires { may_stand book.phase (day_length book.campaign.order) (kind_of item) ≡ true }
-    ensures { (result, m.new) ≡ applied book item m.old }
+    ensures { (result, memory store.new sums.new recording.new r.new mean.new room.new tags.new)
+        ≡ applied book item (memory store.old sums.old recording.old r.old mean.old room.old tags.old) }
 {
-    let phase = book.phase;
     let c = book.campaign;
     match item {
-        Item::Start(order, taps, capacity) => begin(
-            c,
-            order,
-            taps,
-            capacity,
-            &mut m.store,
-            &mut m.sums,
-        ),
+        Item::Start(order, taps, capacity) => begin(c, order, taps, capacity, store, sums),
         Item::Open(day) => say(after_open(day, Night::Period), c, Line::Silent),
-        Item::Sample(v) => say(take_sample(book, v, &mut m.recording), c, Line::Silent),
-        Item::Enter => close(phase, c, &mut m.store, &mut m.sums, &m.recording),
-        Item::Withdraw(day) => withdraw_day(c, day, &mut m.store, &mut m.sums),
-        Item::Ask => ask(c, m),
-        Item::Capture(day, periods) => say(
-            after_open(day, Night::Capture(periods)),
-            c,
-            Line::Silent,
-        ),
-        Item::Edition(edition) => restart(c, edition, &mut m.store, &mut m.sums),
+        Item::Sample(v) => say(take_sample(book, v, recording), c, Line::Silent),
+        Item::Enter => close(book.phase, c, store, sums, recording),
+        Item::Withdraw(day) => withdraw_day(c, day, store, sums),
+        Item::Ask => ask(c, store, sums, r, mean, room, tags),
+        Item::Capture(day, m) => say(after_open(day, Night::Capture(m)), c, Line::Silent),
+        Item::Edition(edition) => restart(c, edition, store, sums),
     }
 }

@@ -8,7 +8,7 @@ use lib.IntN.{ℤ}
 use Rattle.sums.specs.Lists as lists
 use Rattle.report.specs.Lines.{row_bytes, Wrote}
 use Rattle.report.proofs.Writing.{wrote_none, wrote_more}
-use Rattle.logeffects.specs.declared.Memory.{Memory}
+use Rattle.logeffects.specs.Book.{Memory}
 use Rattle.logeffects.specs.declared.Applied.{Applied}
 use Rattle.logitems.specs.Phases.{goes_on}
 use Rattle.logprogram.specs.Program.{Turn, rows_bytes, printed, took}

@@ -8,8 +8,7 @@ use Rattle.logitems.specs.Log.{decoded}
 use Rattle.logitems.specs.declared.Found.{Found}
 use Rattle.logitems.specs.declared.Found.TheVariants as found
 use Rattle.report.specs.Lines.{line_bytes, row_bytes, bad_bytes}
-use Rattle.logeffects.specs.Book.{memory, unbegun_book, day_length, applied}
-use Rattle.logeffects.specs.declared.Memory.{Memory}
+use Rattle.logeffects.specs.Book.{Memory, memory, unbegun_book, day_length, applied}
 use Rattle.logeffects.specs.declared.Book.{Book}
 use Rattle.logeffects.specs.declared.Applied.{Applied}
 use Rattle.logprogram.specs.declared.Bookmark.{Bookmark}

@@ -1,4 +1,4 @@
-// The log program as one function, from the bytes of its input to the bytes that it prints; and its turn.
+// The log program as one function, from the bytes of its input to the bytes that it prints; and its turn, on memory that is lent.
 #![tactic(auto)]
 
 pub mod turning;
@@ -6,7 +6,7 @@ pub mod writing;
 
 use logeffects::Book;
 
-// Where the program stands, beside the memory.
+// Where the program stands, beside the memory lent.
 #[derive(Clone, Copy)]
 pub struct Bookmark {
     pub book: Book,
@@ -15,7 +15,7 @@ pub struct Bookmark {
     pub going: bool,
 }
 
-// A turn, where enough bytes were at hand to tell. Its text is the first `length` bytes of what was lent for it, as there is no heap for a `String`.
+// A turn, where enough bytes were at hand to tell. Its text is the first `length` bytes of what was lent for it.
 #[derive(Clone, Copy)]
 pub struct Turned {
     pub mark: Bookmark,

@@ -1,15 +1,13 @@
-// One turn of the program: what stands at its place, done to the memory, and its text.
+// One turn of the program: what stands at its place, done to the memory lent, and its text.
 ghost use Rattle.std.specs.Prelude.{◌≡◌, true, ◌^◌, ◌≤◌, ◌<◌, length, Some, IfSome};
 ghost use Rattle.logitems.specs.Phases.{may_stand};
 ghost use Rattle.logitems.specs.Log.{kind_of};
 ghost use Rattle.logitems.specs.declared.Found.TheVariants.{Bad};
-ghost use Rattle.logeffects.specs.Book.{day_length, applied};
-ghost use Rattle.logeffects.specs.declared.Memory.{Memory};
+ghost use Rattle.logeffects.specs.Book.{Memory, memory, day_length, applied};
 ghost use Rattle.logprogram.specs.Program.{first_memory, first_place, took, turn_on, turn, place_of, stopped_mark, turn_of};
 
 use crate::writing::{write_bad, write_lines};
 use crate::{Bookmark, Turned};
-use logeffects::Memory;
 use logeffects::applying::{apply, day_length, unbegun};
 use logitems::decoding::decode;
 use logitems::phases::goes_on;
@@ -37,15 +35,27 @@ pub fn stop(mark: Bookmark) -> Bookmark
 }
 
 // A whole item that may stand there is applied, and its lines are written.
-fn take_item(mark: Bookmark, item: Item, size: usize, m: &mut Memory, out: &mut [u8]) -> Turned
+fn take_item(
+    mark: Bookmark,
+    item: Item,
+    size: usize,
+    store: &mut [i32],
+    sums: &mut [i64],
+    recording: &mut [i32],
+    r: &mut [i64],
+    mean: &mut [i32],
+    room: &mut [i64],
+    tags: &mut [u16],
+    out: &mut [u8],
+) -> Turned
     requires item_value { may_stand mark.book.phase (day_length mark.book.campaign.order) (kind_of item) ≡ true }
-    requires size_bound { (size ≤ 5) × (mark.offset < 2 ^ 63) × (65536 ≤ length out.old) }
-    ensures out_after { turn_of mark (Some result) m.new out.new
-        ≡ took mark.offset size (applied mark.book item m.old) }
+    requires size_bound { (size ≤ 5) × (mark.offset < 2 ^ 63) × (511 ≤ length r.old) × (511 ≤ length mean.old) × (65536 ≤ length out.old) }
+    ensures out_after { turn_of mark (Some result) (memory store.new sums.new recording.new r.new mean.new room.new tags.new) out.new
+        ≡ took mark.offset size (applied mark.book item (memory store.old sums.old recording.old r.old mean.old room.old tags.old)) }
     ensures length_in_bounds { result.length ≤ length out.new }
 {
-    let done = apply(mark.book, item, m);
-    let length = write_lines(done.line, done.rows, &m.r, &m.mean, out);
+    let done = apply(mark.book, item, store, sums, recording, r, mean, room, tags);
+    let length = write_lines(done.line, done.rows, r, mean, out);
     Turned {
         mark: Bookmark {
             book: done.book,
@@ -86,18 +96,26 @@ pub fn take_turn(
     mark: Bookmark,
     bytes: &[u8],
     ended: bool,
-    m: &mut Memory,
+    store: &mut [i32],
+    sums: &mut [i64],
+    recording: &mut [i32],
+    r: &mut [i64],
+    mean: &mut [i32],
+    room: &mut [i64],
+    tags: &mut [u16],
     out: &mut [u8],
 ) -> Option<Turned>
-    requires { (mark.offset < 2 ^ 63) × (65536 ≤ length out.old) }
-    ensures out_after { turn_of mark result m.new out.new
-        ≡ turn (place_of mark m.old) bytes.now ended }
+    requires { (mark.offset < 2 ^ 63) × (511 ≤ length r.old) × (511 ≤ length mean.old) × (65536 ≤ length out.old) }
+    ensures out_after { turn_of mark result (memory store.new sums.new recording.new r.new mean.new room.new tags.new) out.new
+        ≡ turn (place_of mark (memory store.old sums.old recording.old r.old mean.old room.old tags.old)) bytes.now ended }
     ensures length_in_bounds { IfSome result (λ t. t.length ≤ length out.new) }
 {
     let book = mark.book;
     let period = day_length(book.campaign.order);
     match decode(book.phase, period, bytes, ended) {
-        Found::Whole(item, size) => Some(take_item(mark, item, size, m, out)),
+        Found::Whole(item, size) => Some(take_item(
+            mark, item, size, store, sums, recording, r, mean, room, tags, out,
+        )),
         Found::Short => None,
         Found::Bad => Some(bad(mark, out)),
         Found::End => Some(end(mark)),

@@ -24,8 +24,7 @@ use Rattle.logitems.specs.declared.Item.{Item}
 use Rattle.logitems.specs.declared.Item.TheVariants as item
 use Rattle.logitems.specs.declared.Found.{Found}
 use Rattle.logitems.specs.declared.Found.TheVariants as found
-use Rattle.logeffects.specs.Book.{log_start_checks, over, started_by, began_outcome, log_enter_checks, entered_outcome, closed_outcome, applied}
-use Rattle.logeffects.specs.declared.Memory.{Memory}
+use Rattle.logeffects.specs.Book.{Memory, log_start_checks, over, started_by, began_outcome, log_enter_checks, entered_outcome, closed_outcome, applied}
 use Rattle.logeffects.specs.declared.Book.{Book}
 use Rattle.logeffects.specs.declared.Applied.{Applied}
 use Rattle.logprogram.specs.Program.{Place, turn_on, stands_at}

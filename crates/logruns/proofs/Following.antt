@@ -37,8 +37,7 @@ use Rattle.logitems.specs.declared.Item.{Item}
 use Rattle.logitems.specs.declared.Found.{Found}
 use Rattle.logitems.specs.declared.Found.TheVariants as found
 use Rattle.logitems.proofs.Finding.{Fits, starts, editions, opens, captures, withdraws, asks, samples, enters, whole, bad, end}
-use Rattle.logeffects.specs.Book.{day_length, log_start_checks, over, started_by, began_outcome, unheld, log_enter_checks, judged_then_filed, entered_by, entered_outcome, filing, applied}
-use Rattle.logeffects.specs.declared.Memory.{Memory}
+use Rattle.logeffects.specs.Book.{Memory, day_length, log_start_checks, over, started_by, began_outcome, unheld, log_enter_checks, judged_then_filed, entered_by, entered_outcome, filing, applied}
 use Rattle.logeffects.specs.declared.Applied.{Applied}
 use Rattle.logeffects.proofs.Starts as starting
 use Rattle.logeffects.proofs.Held.{passed_held}

@@ -48,8 +48,7 @@ use Rattle.logitems.specs.declared.Found.TheVariants as found
 use Rattle.logitems.proofs.Finding.{Fits, starts, editions, opens, captures, withdraws, asks, samples, enters, whole_fits}
 use Rattle.report.specs.Lines.{digits, spaced, line_end, start_line, edition_line, line_bytes, response_line}
 use Rattle.report.specs.declared.Line.TheVariants as line
-use Rattle.logeffects.specs.Book.{log_start_checks, day_length, unheld, log_enter_checks, entered_by, entered_outcome, closed_outcome, tallied, filing, applied}
-use Rattle.logeffects.specs.declared.Memory.{Memory}
+use Rattle.logeffects.specs.Book.{Memory, log_start_checks, day_length, unheld, log_enter_checks, entered_by, entered_outcome, closed_outcome, tallied, filing, applied}
 use Rattle.logeffects.specs.declared.Applied.{Applied}
 use Rattle.logeffects.proofs.Rows.{start_few}
 use Rattle.logeffects.proofs.Starts.{never_six}

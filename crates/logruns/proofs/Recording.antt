@@ -22,8 +22,7 @@ use Rattle.logitems.specs.declared.Phase.TheVariants as phase
 use Rattle.logitems.specs.declared.Item.{Item}
 use Rattle.logitems.specs.declared.Found.{Found}
 use Rattle.logitems.proofs.Finding.{Fits, starts, editions, opens, captures, withdraws, asks, samples, enters, whole, bad, end}
-use Rattle.logeffects.specs.Book.{log_start_checks, over, started_by, began_outcome, unheld, kept_sample, log_enter_checks, entered_outcome, applied}
-use Rattle.logeffects.specs.declared.Memory.{Memory}
+use Rattle.logeffects.specs.Book.{Memory, log_start_checks, over, started_by, began_outcome, unheld, kept_sample, log_enter_checks, entered_outcome, applied}
 use Rattle.logeffects.specs.declared.Applied.{Applied}
 use Rattle.logeffects.proofs.Rows.{day_short}
 use Rattle.logeffects.proofs.Held.{held_short}

@@ -12,7 +12,7 @@ use Rattle.logitems.specs.declared.Item.{Item}
 use Rattle.logitems.specs.declared.Found.{Found}
 use Rattle.logitems.specs.declared.Found.TheVariants as found
 use Rattle.logitems.proofs.Finding.{whole, short, bad, end}
-use Rattle.logeffects.specs.declared.Memory.{Memory}
+use Rattle.logeffects.specs.Book.{Memory}
 use Rattle.logprogram.specs.Program.{Place, turn_on, stands_at, turn}
 use Rattle.logprogram.specs.Reads.{Midway, passed, Ran, begun, taken, more}
 use Rattle.logprogram.proofs.Turns.{StandsAt, found_at}

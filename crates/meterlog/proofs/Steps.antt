@@ -7,7 +7,7 @@ use Prim.Native.Nat.{ℕ, suc, ◌+◌, ◌-◌, ◌≤◌}
 use native.Mathlib.Omega.{arith}
 use lib.Dec.{T, eqb}
 use lib.ListN.{length, drop}
-use Rattle.logeffects.specs.declared.Memory.{Memory}
+use Rattle.logeffects.specs.Book.{Memory}
 use Rattle.logprogram.specs.Program.{Turn, first_memory, first_place, place_of, turn_of}
 use Rattle.logprogram.specs.Reads.{Midway, next, passed, fed, halted, Ran, begun, most_turns}
 use Rattle.logprogram.specs.Reads as runs

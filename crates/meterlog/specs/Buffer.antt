@@ -1,6 +1,6 @@
 -- The log program's state in its buffer, and what a turn does to it, reads and writes that fail included. Assumes nothing.
 use Rattle.std.specs.Prelude.{◌≡◌, Bool, true, false, ◌⊎◌, List, ◌++◌, ℕ, ◌+◌, ◌-◌, ◌≤◌, eqb, length, take, drop, Option, Some, None}
-use Rattle.logeffects.specs.declared.Memory.{Memory}
+use Rattle.logeffects.specs.Book.{Memory}
 use Rattle.logprogram.specs.Program.{place_of, stopped_mark}
 use Rattle.logprogram.specs.Reads.{Midway, next, passed, fed, halted, Ran, most_turns}
 use Rattle.logprogram.specs.declared.Turned.{Turned}

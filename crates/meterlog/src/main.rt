@@ -4,7 +4,6 @@
 mod running;
 mod telling;
 
-use logeffects::{Memory, NIGHT, PERIOD, ROOM, STORE};
 use logprogram::Bookmark;
 use running::run;
 use telling::{tell, word_for};
@@ -18,7 +17,7 @@ pub enum Failed {
     Reading,
 }
 
-// Where the program stands, the bytes of the buffer that are at hand, as there is no heap for a `BufReader`, and what failed, if anything did.
+// Where the program stands, the bytes of the buffer that are at hand, and what failed, if anything did.
 #[derive(Clone, Copy)]
 pub struct Progress {
     pub mark: Bookmark,
@@ -40,19 +39,38 @@ pub enum Word {
 // The bytes that are at hand, and a turn's text.
 const BUFFER: usize = 65536;
 
+// The period of the largest order that the program takes, the longest night that it keeps, of five periods, its wide room, and the store of the
+// most slots.
+const PERIOD: usize = 511;
+
+const NIGHT: usize = 2555;
+
+const ROOM: usize = 512;
+
+const STORE: usize = 4088;
+
 // All the memory there is: the campaign's, and for what is read and written.
 fn main(rt: HostRuntime) {
-    let mut bytes = [0; BUFFER];
-    let mut out = [0; BUFFER];
-    let mut memory = Memory {
-        store: [0; STORE],
-        sums: [0; PERIOD],
-        recording: [0; NIGHT],
-        r: [0; PERIOD],
-        mean: [0; PERIOD],
-        room: [0; ROOM],
-        tags: [0; PERIOD],
-    };
-    let p = run(&rt, &mut bytes, &mut out, &mut memory);
+    let mut bytes: [u8; BUFFER] = [0; BUFFER];
+    let mut out: [u8; BUFFER] = [0; BUFFER];
+    let mut store: [i32; STORE] = [0; STORE];
+    let mut sums: [i64; PERIOD] = [0; PERIOD];
+    let mut recording: [i32; NIGHT] = [0; NIGHT];
+    let mut r: [i64; PERIOD] = [0; PERIOD];
+    let mut mean: [i32; PERIOD] = [0; PERIOD];
+    let mut room: [i64; ROOM] = [0; ROOM];
+    let mut tags: [u16; PERIOD] = [0; PERIOD];
+    let p = run(
+        &rt,
+        &mut bytes,
+        &mut out,
+        &mut store,
+        &mut sums,
+        &mut recording,
+        &mut r,
+        &mut mean,
+        &mut room,
+        &mut tags,
+    );
     tell(&rt, word_for(p));
 }

@@ -2,11 +2,11 @@
 // No contract can say what is read or written, so a function that reads or writes decides nothing: what its answer leads to is a function of
 // that answer.
 ghost use Rattle.std.specs.Prelude.{◌≡◌, ◌+◌, ◌-◌, ◌^◌, ◌≤◌, ◌<◌, length, is_some, unwrap_or};
+ghost use Rattle.logeffects.specs.Book.{memory};
 ghost use Rattle.logprogram.specs.Program.{first_memory};
 ghost use Rattle.meterlog.specs.Buffer.{midway, Inside, stopping, after_write, after_read, Refilled, Stepped, Ended};
 
 use crate::{Failed, Progress};
-use logeffects::Memory;
 use logitems::feeding::to_front;
 use logprogram::Turned;
 use logprogram::turning::{bad, first_mark, stop, take_turn};
@@ -111,14 +111,35 @@ fn step(
     p: Progress,
     bytes: &mut [u8],
     out: &mut [u8],
-    memory: &mut Memory,
+    store: &mut [i32],
+    sums: &mut [i64],
+    recording: &mut [i32],
+    r: &mut [i64],
+    mean: &mut [i32],
+    room: &mut [i64],
+    tags: &mut [u16],
 ) -> Progress
     requires inside { Inside p bytes.old × (p.mark.offset < 2 ^ 63) × (5 ≤ length bytes.old) }
-    requires in_bounds { 65536 ≤ length out.old }
-    ensures stepped { Stepped (midway p bytes.old memory.old) (midway result bytes.new memory.new) result.failed }
+    requires in_bounds { (511 ≤ length r.old) × (511 ≤ length mean.old) × (65536 ≤ length out.old) }
+    ensures stepped { Stepped
+        (midway p bytes.old (memory store.old sums.old recording.old r.old mean.old room.old tags.old))
+        (midway result bytes.new (memory store.new sums.new recording.new r.new mean.new room.new tags.new))
+        result.failed }
     ensures inside_2 { Inside result bytes.new }
 {
-    let Some(t) = take_turn(p.mark, &bytes[p.from..p.to], p.ended, memory, out) else {
+    let Some(t) = take_turn(
+        p.mark,
+        &bytes[p.from..p.to],
+        p.ended,
+        store,
+        sums,
+        recording,
+        r,
+        mean,
+        room,
+        tags,
+        out,
+    ) else {
         return read_more(rt, p, bytes, out);
     };
     let wrote = rt.write_all(&out[..t.length]).is_ok();
@@ -132,11 +153,19 @@ pub fn run(
     rt: &(impl Input + Print + Eprint),
     bytes: &mut [u8],
     out: &mut [u8],
-    memory: &mut Memory,
+    store: &mut [i32],
+    sums: &mut [i64],
+    recording: &mut [i32],
+    r: &mut [i64],
+    mean: &mut [i32],
+    room: &mut [i64],
+    tags: &mut [u16],
 ) -> Progress
-    requires memory_value { memory.old ≡ first_memory }
+    requires tags_value { memory store.old sums.old recording.old r.old mean.old room.old tags.old ≡ first_memory }
     requires in_bounds { (65536 ≤ length out.old) × (5 ≤ length bytes.old) }
-    ensures ended { Ended (midway result bytes.new memory.new) result.failed }
+    ensures ended { Ended
+        (midway result bytes.new (memory store.new sums.new recording.new r.new mean.new room.new tags.new))
+        result.failed }
     ensures inside { Inside result bytes.new }
 {
     let mut p = Progress {
@@ -147,7 +176,9 @@ pub fn run(
         failed: None,
     };
     for _turn in 0..MOST_TURNS {
-        p = step(rt, p, bytes, out, memory);
+        p = step(
+            rt, p, bytes, out, store, sums, recording, r, mean, room, tags,
+        );
         if !p.mark.going {
             return p;
         }

@@ -5,6 +5,8 @@ use Prim.Native.Nat.{ℕ}
 use lib.IntN.{ℤ}
 use Rattle.sums.specs.Refusals.{first}
 use Rattle.sums.proofs.First.{refused_with, accepted_with}
+use mathlib.Core.Bool.{not}
+use Rattle.refusals.proofs.Causes.{ok_answers, err_answers}
 use Rattle.register.specs.Calls.{answer_of}
 use Rattle.refusals.specs.declared.Answer.{Answer}
 use Rattle.rounding.specs.Rounding.{away_from_zero}
@@ -31,7 +33,17 @@ module _ (c : Campaign) (N taps C : ℕ) (store sums : List ℤ) where
   accepted z q o = rw q (ap (over started_by) o ∙ sym (accepted_with _ _ (log_start_checks N taps C) asked refl z))
 
 pub returns-then-is_err : goal.returns-then-is_err
-returns-then-is_err c = ?
+returns-then-is_err c =
+    let a = c.args in
+    let r = c.check_start-checked.result in
+    let e = c.check_start-checked.ensures in
+    refused a.c a.order a.taps a.capacity a.store.now a.sums.now e
+    (λ z. err_answers r (c.is_err.ensures.negation ∙ ap not c.if-is_err.true) (ap (λ (x : Answer). x.number) e ∙ z)) c.started_by.ensures
 
-pub returns-else-is_err : goal.returns-else-is_err
-returns-else-is_err c = ?
+pub returns : goal.returns
+returns c =
+    let a = c.args in
+    let r = c.check_start-checked.result in
+    let e = c.check_start-checked.ensures in
+    accepted a.c a.order a.taps a.capacity a.store.now a.sums.now
+    (sym (ap (λ (x : Answer). x.number) e) ∙ ok_answers r (c.is_err.ensures.negation ∙ ap not c.if-is_err.false)) c.started_by-2.ensures c.start.ensures

@@ -4,6 +4,7 @@ use Rattle.logitems.specs.Log.{decoded}
 use Rattle.logitems.specs.declared.Found.{Found}
 use Rattle.logitems.specs.declared.Found.TheVariants as found
 use Rattle.logitems.proofs.Finding.{fits_kind, whole_size, whole_fits}
+use Rattle.logeffects.specs.Book.{memory}
 use Rattle.logprogram.specs.Program.{Place, place_of, stands_at, turn_on, turn}
 use Rattle.logprogram.proofs.Turns.{StandsAt, found_at, turn_by}
 use Rattle.logprogram.proofs.turning.take_turn.Goals as goal
@@ -12,7 +13,7 @@ use Rattle.logprogram.proofs.turning.take_turn.Goals.{After-decode}
 -- the place at entry, and what was found there
 module _ (c : After-decode) (f : Found) (e : f ≡ decoded c.args.mark.book.phase c.day_length-period.result c.args.bytes.now c.args.ended) where
   abbrev place : Place
-  place = place_of c.args.mark c.args.m.now
+  place = let a = c.args in place_of a.mark (memory a.store.now a.sums.now a.recording.now a.r.now a.mean.now a.room.now a.tags.now)
 
   stands : f ≡ stands_at place c.args.bytes.now c.args.ended
   stands = e ∙ ap (λ n. decoded c.args.mark.book.phase n c.args.bytes.now c.args.ended) c.day_length-period.ensures
@@ -31,7 +32,7 @@ take_item-requires-clause-item_value c =
 pub take_item-requires-clause-size_bound : goal.take_item-requires-clause-size_bound
 take_item-requires-clause-size_bound c =
     let w = whole (goal.at.take_item-requires-clause-size_bound c).After-decode _ c.in-Whole.ensures in
-    ((whole_size w).2, c.requires.0, c.requires.1)
+    ((whole_size w).2, c.requires.0, c.requires.1, c.requires.2, c.requires.3)
 
 pub returns-in-Whole-clause-out_after : goal.returns-in-Whole-clause-out_after
 returns-in-Whole-clause-out_after c =

@@ -14,7 +14,7 @@ loop-turn-init g c = (
   record { forth = omega arith; inside = omega arith },
   omega (arith, ap (λ (p : Place). p.offset) c.first_mark.ensures),
   ap (λ (p : Place). p.going) c.first_mark.ensures,
-  held_first _ c.first_mark.result c.requires.memory_value c.first_mark.ensures,
+  held_first _ c.first_mark.result c.requires.tags_value c.first_mark.ensures,
 )
 
 pub loop-turn-preserved : goal.loop-turn-preserved

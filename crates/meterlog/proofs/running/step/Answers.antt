@@ -5,7 +5,7 @@ use Prim.Native.Nat.{◌+◌, ◌-◌, ◌≤◌}
 use native.Mathlib.Omega.{arith}
 use Rattle.std.proofs.Common.{None}
 use lib.ListN.{length-take, length-drop}
-use Rattle.logeffects.specs.declared.Memory.{Memory}
+use Rattle.logeffects.specs.Book.{Memory, memory}
 use Rattle.logprogram.specs.Program.{Turn, turn}
 use Rattle.logprogram.specs.Reads.{Midway}
 use Rattle.logprogram.proofs.Turns.{turn_bounded, short_idle, short_few}
@@ -21,7 +21,9 @@ use Rattle.meterlog.proofs.running.step.Goals.{Start, In-Some, In_default}
 -- where the bytes at hand are too few
 module _ (g : given.Over) (c : In_default g) where
   abbrev first : Midway
-  first = midway c.args.p c.args.bytes.now c.args.memory.now
+  first =
+      let a = c.args in
+      midway a.p a.bytes.now (memory a.store.now a.sums.now a.recording.now a.r.now a.mean.now a.room.now a.tags.now)
 
   short_turn : (turn first.place first.hand first.ended).short ≡ true
   short_turn = ap (λ (t : Turn). t.short) (sym c.in_default.ensures.out_after)
@@ -29,13 +31,16 @@ module _ (g : given.Over) (c : In_default g) where
   few : c.args.p.to - c.args.p.from ≤ 4
   few = omega (arith, simp (length-take, length-drop) at (short_few first.place first.hand first.ended short_turn), c.requires.inside)
 
-  unmoved : c.take_turn.new.m ≡ first.place.memory
+  abbrev after : Memory
+  after = let l = c.take_turn.new in memory l.store l.sums l.recording l.r l.mean l.room l.tags
+
+  unmoved : after ≡ first.place.memory
   unmoved = ap (λ (t : Turn). t.place.memory) (c.in_default.ensures.out_after ∙ short_idle first.place first.hand first.ended short_turn)
 
 used_fits : (g : given.Over) (c : In-Some g) → c.args.p.from + c.in-Some.t.used ≤ c.args.p.to
 used_fits g c =
     let a = c.args in
-    let m = midway a.p a.bytes.now a.memory.now in
+    let m = midway a.p a.bytes.now (memory a.store.now a.sums.now a.recording.now a.r.now a.mean.now a.room.now a.tags.now) in
     omega (arith, ap (λ (t : Turn). t.used) c.in-Some.ensures.out_after, simp length-take at (turn_bounded m.place m.hand m.ended).0, c.requires.inside)
 
 pub read_more-requires : goal.read_more-requires
