@@ -1,7 +1,7 @@
 -- `logeffects::applying::check_start` meets its contract: each return rewrites with the tests that led there. Assumes nothing.
 use mathlib.Core.Path.{◌≡◌, refl, sym, ap, ◌∙◌}
 use mathlib.Core.Bool.{Bool}
-use mathlib.Core.List.{List, [], ◌∷◌}
+use mathlib.Core.List.{[], ◌∷◌}
 use Prim.Native.Nat.{ℕ}
 use Rattle.sums.specs.Refusals.{first}
 use Rattle.sums.proofs.First.{refused_first, passed_first}
