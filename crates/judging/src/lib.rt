@@ -13,7 +13,7 @@ pub enum Judged {
     Overloaded(usize),
     // Its largest sample minus its smallest is 7 or less.
     Dead,
-    // The refusal's number, since a caller in C may hand in any.
+    // The refusal's number, since a caller that files may hand in any.
     Refused(u32),
 }
 

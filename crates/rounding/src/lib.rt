@@ -4,7 +4,7 @@
 pub mod editions;
 pub mod means;
 
-// The editions, by where an exact half goes.
+// The editions, by where an exact half goes. They are numbers, as a record that is handed in may hold any other.
 pub const AWAY_FROM_ZERO: u32 = 1;
 
 pub const TO_EVEN: u32 = 2;
