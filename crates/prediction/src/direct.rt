@@ -2,11 +2,11 @@
 ghost use Rattle.std.specs.Prelude.{◌≡◌, true, false, ℕ, ◌%◌, ◌^◌, ◌≤◌, ◌<◌, pos, nat_abs, ◌*ℤ◌, length};
 ghost use Rattle.sums.specs.Sum.{sign, total};
 ghost use Rattle.sums.specs.Lists.{at};
-ghost use Rattle.register.specs.Register.{P, window as window_of, Accepted};
+ghost use Rattle.register.specs.Register.{P, window as window_of};
 ghost use Rattle.samples.specs.Samples.{sample_out, some_out};
 ghost use Rattle.prediction.specs.Calls.{predicted};
 
-use register::shift::{full_period, step};
+use register::accepted::Register;
 use response::spread::widened;
 use samples::HIGHEST_SAMPLE;
 use samples::range::sample_out;
@@ -45,43 +45,43 @@ fn signed(window: u32, x: i64) -> i64
 }
 
 // Whether y(j), of the window at j, lies outside the sample range.
-fn predicted_out(order: u32, taps: u32, h: &[i32], window: u32) -> bool
-    requires accepted { (Accepted order taps) × (length h.now ≡ P order) × (window < 2 ^ order) }
+fn predicted_out(register: Register, h: &[i32], window: u32) -> bool
+    requires h_len { (length h.now ≡ P register.order) × (window < 2 ^ register.order) }
     requires h_value { some_out (length h.now) (at h.now) ≡ false }
-    ensures { (j : ℕ) → window ≡ window_of order taps j → result ≡ sample_out (predicted order taps h.now j) }
+    ensures { (j : ℕ) → window ≡ window_of register.order register.taps j → result ≡ sample_out (predicted register.order register.taps h.now j) }
 {
     let mut y: i64 = 0;
     let mut w = window;
     for i in (0..h.len()).rev() {
-        w = step(order, taps, w);
+        w = register.step(w);
         y += signed(w, widened(h, i));
     }
     sample_out(y)
 }
 
 // Whether some predicted sample lies outside the sample range.
-fn some_predicted_out(order: u32, taps: u32, h: &[i32]) -> bool
-    requires accepted { (Accepted order taps) × (length h.now ≡ P order) }
+fn some_predicted_out(register: Register, h: &[i32]) -> bool
+    requires h_len { length h.now ≡ P register.order }
     requires h_value { some_out (length h.now) (at h.now) ≡ false }
-    ensures { result ≡ some_out (P order) (predicted order taps h.now) }
+    ensures { result ≡ some_out (P register.order) (predicted register.order register.taps h.now) }
 {
-    let mut w = full_period(order);
+    let mut w = register.period();
     for _j in 0..h.len() {
-        if predicted_out(order, taps, h, w) {
+        if predicted_out(register, h, w) {
             return true;
         }
-        w = step(order, taps, w);
+        w = register.step(w);
     }
     false
 }
 
 // Whether 8 is known with the room untouched. It is worked out only where the room does not hold zeros and the response is large enough.
-pub fn known_loud(order: u32, taps: u32, h: &[i32], room: &[i64]) -> bool
-    requires accepted { (Accepted order taps) × (length h.now ≡ P order) × (P order < length room.now) }
+pub fn known_loud(register: Register, h: &[i32], room: &[i64]) -> bool
+    requires h_len { (length h.now ≡ P register.order) × (P register.order < length room.now) }
     requires h_value { some_out (length h.now) (at h.now) ≡ false }
-    ensures loud { result ≡ true → some_out (P order) (predicted order taps h.now) ≡ true }
-    ensures zeros { result ≡ false → some_out (P order) (predicted order taps h.now) ≡ true
-        → (i : ℕ) → i ≤ P order → at room.now i ≡ pos 0 }
+    ensures loud { result ≡ true → some_out (P register.order) (predicted register.order register.taps h.now) ≡ true }
+    ensures zeros { result ≡ false → some_out (P register.order) (predicted register.order register.taps h.now) ≡ true
+        → (i : ℕ) → i ≤ P register.order → at room.now i ≡ pos 0 }
 {
     if !some_used(room, h.len() + 1) {
         return false;
@@ -89,5 +89,5 @@ pub fn known_loud(order: u32, taps: u32, h: &[i32], room: &[i64]) -> bool
     if !may_be_loud(h) {
         return false;
     }
-    some_predicted_out(order, taps, h)
+    some_predicted_out(register, h)
 }

@@ -1,6 +1,7 @@
 // The shift register: its taps judged, its sequence written.
 #![tactic(auto)]
 
+pub mod accepted;
 pub mod doubling;
 pub mod returning;
 pub mod sequence;

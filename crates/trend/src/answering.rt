@@ -11,6 +11,7 @@ use crate::rooms::answer_short;
 use records::together::holds;
 use records::{Campaign, STANDING};
 use refusals::Refusal;
+use register::accepted::Register;
 use register::shift::full_period;
 use response::of_sums::turn_sums;
 use rounding::means::write_means;
@@ -55,9 +56,10 @@ pub fn response(
         ≡ response_outcome c store.now sums.now r.old mean.old room.old tags.old }
 {
     check_response(c, store, sums, r.len(), mean.len(), room.len(), tags.len())?;
-    let period = full_period(c.order) as usize;
+    let register = Register::new(c.order, c.taps);
+    let period = register.period() as usize;
     let divisor = divisor_of(&c);
-    turn_sums(c.order, c.taps, sums, r, room, tags);
+    turn_sums(register, sums, r, room, tags);
     write_means(c.edition, r, mean, period, divisor);
     Ok(())
 }

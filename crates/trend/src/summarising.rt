@@ -13,6 +13,7 @@ use crate::{Extremes, Levels, Summary};
 use records::together::holds;
 use records::{Campaign, STANDING};
 use refusals::Refusal;
+use register::accepted::Register;
 use register::shift::full_period;
 use samples::lengths::work_short;
 
@@ -67,6 +68,6 @@ pub fn summary(
         return Summary::Nothing;
     }
     let divisor = divisor_of(&c);
-    let extremes = measure(c.order, c.taps, sums, room, tags);
+    let extremes = measure(Register::new(c.order, c.taps), sums, room, tags);
     Summary::Measured(levels_of(extremes, divisor))
 }

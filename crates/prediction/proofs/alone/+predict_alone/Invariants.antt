@@ -3,4 +3,4 @@ use Prim.Native.Nat.{◌-◌}
 use Rattle.prediction.proofs.alone.+predict_alone.Given as goal
 
 abbrev pub decreases-predict_alone : goal.decreases-predict_alone
-decreases-predict_alone l = l.order - l.most
+decreases-predict_alone l = l.register.order - l.most

@@ -71,10 +71,10 @@ returns-then-some_out c =
       refl,
     )
 
-pub predict_alone-requires-clause-accepted : goal.predict_alone-requires-clause-accepted
-predict_alone-requires-clause-accepted c =
-    let p = passed (goal.at.predict_alone-requires-clause-accepted c).In_ok-period in
-    (p.accepted, p.long, omega (arith, c.if-out-h.false, p.long))
+pub predict_alone-requires-clause-h_len : goal.predict_alone-requires-clause-h_len
+predict_alone-requires-clause-h_len c =
+    let p = passed (goal.at.predict_alone-requires-clause-h_len c).In_ok-period in
+    rw c.new.ensures.order (p.long, omega (arith, c.if-out-h.false, p.long))
 
 pub returns-in_err-predict_alone : goal.returns-in_err-predict_alone
 unfolding prediction_outcome
@@ -84,12 +84,15 @@ returns-in_err-predict_alone c =
     let at = goal.at.returns-in_err-predict_alone c in
     let s = at.Start in
     let p = passed at.In_ok-period in
-    let e = c.in_err-predict_alone.ensures in
+    let e = rw (c.new.ensures.order, c.new.ensures.taps) at c.in_err-predict_alone.ensures in
     let n : number d ≡ _ = ap (λ (o : ℕ × List ℤ). o.0) e ∙ answers_first (more s) (λ (o : ℕ × List ℤ). o.0) (kept s) (made s) (λ n. refl) refl in
     rw (exits c.from_residual-in_err-predict_alone.result d c.from_residual-in_err-predict_alone.ensures.1) (
       e ∙ sym (left (kept s) (made s) a.order a.taps a.h.now (short s) (more s) (sym p.none) refl (long at.Else-out-h) (sym c.some_out.ensures ∙ c.if-some_out.false)),
       silent a.order a.taps d (λ z. not_first 4 (more s) tt (sym n ∙ z)),
     )
+
+pub new-requires : goal.new-requires
+new-requires c = (passed (goal.at.new-requires c).In_ok-period).accepted
 
 pub returns : goal.returns
 unfolding prediction_outcome
@@ -97,7 +100,7 @@ returns c =
     let a = c.args in
     let s = (goal.at.returns c).Start in
     let p = passed (goal.at.returns c).In_ok-period in (
-      c.in_ok-predict_alone.ensures
+      rw (c.new.ensures.order, c.new.ensures.taps) at c.in_ok-predict_alone.ensures
           ∙ sym (left (kept s) (made s) a.order a.taps a.h.now (short s) (more s) (sym p.none) refl (long (goal.at.returns c).Else-out-h) (sym c.some_out.ensures ∙ c.if-some_out.false)),
       p.whole,
     )

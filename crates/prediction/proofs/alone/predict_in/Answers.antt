@@ -35,47 +35,47 @@ module _ (N taps : ℕ) (a : Accepted N taps) (h was v t : List ℤ) (laid : Lai
   sample-out-at = some_ext (P N) (λ j _. ap sample_out (heard j))
 
 told : (c : After-transform_room) → let a = c.args in
-    some_out (P a.order) (λ j. at c.transform_room.new.room (window a.order a.taps j))
-    ≡ some_out (P a.order) (prediction (P a.order) (wave a.order a.taps) (at a.h.now))
+    some_out (P a.register.order) (λ j. at c.transform_room.new.room (window a.register.order a.register.taps j))
+    ≡ some_out (P a.register.order) (prediction (P a.register.order) (wave a.register.order a.register.taps) (at a.h.now))
 told c =
     let a = c.args in
-    sample-out-at a.order a.taps c.requires.accepted.0 a.h.now a.room.now _ _ c.spread_back.ensures
-    c.requires.accepted.3 c.transform_room.ensures
+    sample-out-at a.register.order a.register.taps c.args.register.accepted a.h.now a.room.now _ _ c.spread_back.ensures
+    c.requires.h_len.2 c.transform_room.ensures
 
 -- past what was used the room is as it was
 room-kept : (c : After-transform_room) → let a = c.args in
-    cleared_wide (P a.order + 1) c.transform_room.new.room ≡ cleared_wide (P a.order + 1) a.room.now
+    cleared_wide (P a.register.order + 1) c.transform_room.new.room ≡ cleared_wide (P a.register.order + 1) a.room.now
 room-kept c =
-    let N = c.args.order in
+    let N = c.args.register.order in
     ap (cleared_wide (P N + 1)) c.transform_room.ensures ∙ cleared_again N c.spread_back.ensures _
 
 pub transform_room-requires : goal.transform_room-requires
 transform_room-requires c =
-    let N = c.args.order in
-    let wide : P N < length c.spread_back.new.room = omega (arith, c.spread_back.ensures.long, c.requires.accepted.3) in (
-      c.requires.accepted.0.shaped.most,
-      omega (arith, c.requires.accepted.1, suc_ones N),
-      omega (arith, c.requires.accepted.1),
-      rw (loud N (tags_walk N c.args.taps c.requires.accepted.0) c.spread_back.ensures wide)
-          (quiet c.args.h.now (P N) c.requires.accepted.1 (omega (arith, small c.requires.accepted.0.shaped.most)) c.requires.h_value),
+    let N = c.args.register.order in
+    let wide : P N < length c.spread_back.new.room = omega (arith, c.spread_back.ensures.long, c.requires.h_len.2) in (
+      c.args.register.accepted.shaped.most,
+      omega (arith, c.requires.h_len.0, suc_ones N),
+      omega (arith, c.requires.h_len.0),
+      rw (loud N (tags_walk N c.args.register.taps c.args.register.accepted) c.spread_back.ensures wide)
+          (quiet c.args.h.now (P N) c.requires.h_len.0 (omega (arith, small c.args.register.accepted.shaped.most)) c.requires.h_value),
     )
 
 pub returns-then-some_sample_out : goal.returns-then-some_sample_out
 returns-then-some_sample_out c =
     let t = (goal.at.returns-then-some_sample_out c).After-transform_room in
-    let tested = rw c.requires.accepted.1 at c.some_sample_out.ensures ∙ told t in
+    let tested = rw c.requires.h_len.0 at c.some_sample_out.ensures ∙ told t in
     (simp (sym tested ∙ c.if-some_sample_out.true), room-kept t)
 
 pub returns : goal.returns
 returns c =
     let a = c.args in
-    let p = c.requires.accepted in
+    let p = c.requires.h_len in
     let t = (goal.at.returns c).After-transform_room in
-    let tested = rw p.1 at c.some_sample_out.ensures ∙ told t in (
-      rw (rw p.1 at c.write_samples.ensures
+    let tested = rw p.0 at c.some_sample_out.ensures ∙ told t in (
+      rw (rw p.0 at c.write_samples.ensures
           ∙ ap (λ l. put l a.out.now)
-          (table_ext (P a.order)
-          (λ j _. heard a.order a.taps p.0 a.h.now a.room.now _ _ c.spread_back.ensures p.3 c.transform_room.ensures j)))
+          (table_ext (P a.register.order)
+          (λ j _. heard a.register.order a.register.taps a.register.accepted a.h.now a.room.now _ _ c.spread_back.ensures p.2 c.transform_room.ensures j)))
           (simp (sym tested ∙ c.if-some_sample_out.false)),
       room-kept t,
     )

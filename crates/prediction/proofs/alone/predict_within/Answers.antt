@@ -4,8 +4,8 @@ use lib.IntN.{ℤ}
 use Rattle.std.proofs.lemmas.List.{length-replicate}
 use Rattle.prediction.proofs.alone.predict_within.Goals as goal
 
-pub predict_in-requires-clause-accepted : goal.predict_in-requires-clause-accepted
-predict_in-requires-clause-accepted g c = (c.requires.accepted.0, c.requires.accepted.1, c.requires.accepted.2, omega (arith, c.requires.room, length-replicate {A = ℤ}))
+pub predict_in-requires-clause-h_len : goal.predict_in-requires-clause-h_len
+predict_in-requires-clause-h_len g c = (c.requires.h_len.0, c.requires.h_len.1, omega (arith, c.requires.room, length-replicate {A = ℤ}))
 
 pub whole_as_slice-predict_in : goal.whole_as_slice-predict_in
 whole_as_slice-predict_in g c = omega (arith, c.requires.room)

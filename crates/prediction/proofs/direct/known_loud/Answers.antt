@@ -11,5 +11,5 @@ use Rattle.prediction.proofs.direct.known_loud.Goals as goal
 pub returns-then-not-may_be_loud-clause-zeros : goal.returns-then-not-may_be_loud-clause-zeros
 returns-then-not-may_be_loud-clause-zeros c =
     let h = c.args.h.now in
-    let quiet = subst (λ (n : ℕ). total n (λ i. nat_abs (at h i)) ≤ 8388607) c.requires.accepted.1 (c.may_be_loud.ensures (c.if-not-may_be_loud.true)) in
-    (λ _ t. absurd (true≢false (sym t ∙ never_loud c.args.order c.args.taps h quiet)))
+    let quiet = subst (λ (n : ℕ). total n (λ i. nat_abs (at h i)) ≤ 8388607) c.requires.h_len.0 (c.may_be_loud.ensures (c.if-not-may_be_loud.true)) in
+    (λ _ t. absurd (true≢false (sym t ∙ never_loud c.args.register.order c.args.register.taps h quiet)))

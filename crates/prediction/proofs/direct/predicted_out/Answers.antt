@@ -39,11 +39,11 @@ module _ (N : ℕ) (h : List ℤ) (i : ℕ) (quiet : some_out (length h) (at h) 
         through (q ∙ ap (λ z. z *ℤ sign (w % 2)) (through e value_size)) (omega (arith, signed-size (at h (i - 1)) w, value_size))
 
 pub loop-i-init : goal.loop-i-init
-loop-i-init c = rw c.requires.accepted.1 (summed_none c.requires.accepted.2)
+loop-i-init c = rw c.requires.h_len.0 (summed_none c.requires.h_len.1)
 
 pub signed-y-requires : goal.signed-y-requires
 signed-y-requires c =
-    x_size c.args.order c.args.h.now c.loop-i.i c.requires.h_value c.requires.accepted.1 c.loop-i.invariant.to c.loop-i-test.true
+    x_size c.args.register.order c.args.h.now c.loop-i.i c.requires.h_value c.requires.h_len.0 c.loop-i.invariant.to c.loop-i-test.true
     c.widened.ensures
 
 pub overflow_add-y : goal.overflow_add-y
@@ -52,8 +52,8 @@ overflow_add-y c =
     let y = to_z w64 c.loop-i.y-bits in
     let v = at c.args.h.now (c.loop-i.i - 1) in
     let q : nat_abs v ≤ 2 ^ 23 =
-    value_size c.args.order c.args.h.now c.loop-i.i c.requires.h_value c.requires.accepted.1 c.loop-i.invariant.to c.loop-i-test.true in
-    rw (signed_is c.args.order c.args.h.now c.loop-i.i c.requires.h_value c.requires.accepted.1 c.loop-i.invariant.to c.loop-i-test.true
+    value_size c.args.register.order c.args.h.now c.loop-i.i c.requires.h_value c.requires.h_len.0 c.loop-i.invariant.to c.loop-i-test.true in
+    rw (signed_is c.args.register.order c.args.h.now c.loop-i.i c.requires.h_value c.requires.h_len.0 c.loop-i.invariant.to c.loop-i-test.true
     c.widened.ensures w c.signed-y.ensures)
     (small_fits w64 (y +ℤ v *ℤ sign (w % 2))
     (omega (
@@ -63,7 +63,7 @@ overflow_add-y c =
       q,
       c.loop-i.invariant.small,
       c.loop-i.invariant.to,
-      small c.requires.accepted.0.shaped.most,
+      small c.args.register.accepted.shaped.most,
     )))
 
 pub loop-i-preserved : goal.loop-i-preserved
@@ -71,11 +71,11 @@ loop-i-preserved c =
     let a = c.args in
     let y = to_z w64 c.loop-i.y-bits in
     let e : c.loop-i.i ≡ suc (c.loop-i.i - 1) = omega arith in
-    summed_more c.requires.accepted.0 (subst (λ (n : ℕ). Summed a.order a.taps a.h.now a.window y c.loop-i.w n) e c.loop-i.invariant)
-    (value_size a.order a.h.now c.loop-i.i c.requires.h_value c.requires.accepted.1 c.loop-i.invariant.to c.loop-i-test.true)
+    summed_more c.args.register.accepted (subst (λ (n : ℕ). Summed a.register.order a.register.taps a.h.now a.window y c.loop-i.w n) e c.loop-i.invariant)
+    (value_size a.register.order a.h.now c.loop-i.i c.requires.h_value c.requires.h_len.0 c.loop-i.invariant.to c.loop-i-test.true)
     c.step-w.ensures
     (to_z-of_z w64 (y +ℤ to_z w64 (of_z w64 c.signed-y.result)) (overflow_add-y c)
-    ∙ ap (λ z. y +ℤ z) (signed_is a.order a.h.now c.loop-i.i c.requires.h_value c.requires.accepted.1 c.loop-i.invariant.to c.loop-i-test.true
+    ∙ ap (λ z. y +ℤ z) (signed_is a.register.order a.h.now c.loop-i.i c.requires.h_value c.requires.h_len.0 c.loop-i.invariant.to c.loop-i-test.true
     c.widened.ensures c.step-w.result c.signed-y.ensures))
 
 pub returns : goal.returns
@@ -84,4 +84,4 @@ returns c = λ j e.
     let y = to_z w64 c.loop-i.y-bits in
     let z : c.loop-i.i ≡ 0 = omega arith in
     c.sample_out.ensures
-    ∙ ap sample_out (summed_all (subst (λ (n : ℕ). Summed a.order a.taps a.h.now a.window y c.loop-i.w n) z c.loop-i.invariant) j e)
+    ∙ ap sample_out (summed_all (subst (λ (n : ℕ). Summed a.register.order a.register.taps a.h.now a.window y c.loop-i.w n) z c.loop-i.invariant) j e)

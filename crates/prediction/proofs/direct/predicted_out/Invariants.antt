@@ -3,4 +3,4 @@ use Rattle.prediction.proofs.Terms.{Summed}
 use Rattle.prediction.proofs.direct.predicted_out.Given as goal
 
 abbrev pub invariant-loop-i : goal.invariant-loop-i
-invariant-loop-i l = Summed l.order l.taps l.h l.window l.y l.w l.i
+invariant-loop-i l = Summed l.register.order l.register.taps l.h l.window l.y l.w l.i

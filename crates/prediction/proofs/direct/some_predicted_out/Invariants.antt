@@ -9,4 +9,4 @@ use Rattle.prediction.specs.Calls.{predicted}
 use Rattle.prediction.proofs.direct.some_predicted_out.Given as goal
 
 abbrev pub invariant-loop-j : goal.invariant-loop-j
-invariant-loop-j l = (l._j ≤ length l.h) × (l.w ≡ window l.order l.taps l._j) × ((i : ℕ) → i < l._j → sample_out (predicted l.order l.taps l.h i) ≡ false)
+invariant-loop-j l = (l._j ≤ length l.h) × (l.w ≡ window l.register.order l.register.taps l._j) × ((i : ℕ) → i < l._j → sample_out (predicted l.register.order l.register.taps l.h i) ≡ false)

@@ -75,14 +75,14 @@ returns-then-some_out c =
       refl,
     )
 
-pub predict_lent-requires-clause-accepted : goal.predict_lent-requires-clause-accepted
-predict_lent-requires-clause-accepted c =
+pub predict_lent-requires-clause-h_len : goal.predict_lent-requires-clause-h_len
+predict_lent-requires-clause-h_len c =
     let a = c.args in
-    let at = goal.at.predict_lent-requires-clause-accepted c in
+    let at = goal.at.predict_lent-requires-clause-h_len c in
     let enough = or-false (ltb (length a.out.now) (P a.order)) (ltb (length a.room.now) (P a.order + 1)) (long at.Else-lent_short) in
     let room = ltb-false (length a.room.now) (P a.order + 1) enough.1 in
     let p = passed at.In_ok-period in
-    (p.accepted, p.long, ltb-false (length a.out.now) (P a.order) enough.0, omega (arith, room))
+    rw c.new.ensures.order (p.long, ltb-false (length a.out.now) (P a.order) enough.0, omega (arith, room))
 
 pub returns-in_err-predict_lent : goal.returns-in_err-predict_lent
 unfolding roomed_outcome
@@ -91,12 +91,15 @@ returns-in_err-predict_lent c =
     let d = c.in_err-predict_lent.field-0.0 in
     let at = goal.at.returns-in_err-predict_lent c in
     let s = at.Start in
-    let e = c.in_err-predict_lent.ensures in
+    let e = rw (c.new.ensures.order, c.new.ensures.taps) at c.in_err-predict_lent.ensures in
     let n : number d ≡ _ = ap (λ (o : ℕ × List ℤ × List ℤ). o.0) e ∙ answers_first (more s) (λ (o : ℕ × List ℤ × List ℤ). o.0) (kept s) (made s) (λ n. refl) refl in
     rw (exits c.from_residual-in_err-predict_lent.result d c.from_residual-in_err-predict_lent.ensures.1) (
       e ∙ sym (left (kept s) (made s) a.order a.taps a.h.now (short s) (more s) (sym (passed at.In_ok-period).none) refl (long at.Else-lent_short) (sym c.some_out.ensures ∙ c.if-some_out.false)),
       silent a.order a.taps d (λ z. not_first 4 (more s) tt (sym n ∙ z)),
     )
+
+pub new-requires : goal.new-requires
+new-requires c = (passed (goal.at.new-requires c).In_ok-period).accepted
 
 pub returns : goal.returns
 unfolding roomed_outcome
@@ -105,7 +108,7 @@ returns c =
     let at = goal.at.returns c in
     let s = at.Start in
     let p = passed at.In_ok-period in (
-      c.in_ok-predict_lent.ensures
+      rw (c.new.ensures.order, c.new.ensures.taps) at c.in_ok-predict_lent.ensures
           ∙ sym (left (kept s) (made s) a.order a.taps a.h.now (short s) (more s) (sym p.none) refl (long at.Else-lent_short) (sym c.some_out.ensures ∙ c.if-some_out.false)),
       p.whole,
     )

@@ -14,15 +14,15 @@ use Rattle.prediction.proofs.windows.some_sample_out.Goals.{After-sample_out_at,
 
 -- what is tested at place i
 abbrev tests : Start → ℕ → Bool
-tests c i = sample_out (at c.args.t.now (window_of c.args.order c.args.taps i))
+tests c i = sample_out (at c.args.t.now (window_of c.args.register.order c.args.register.taps i))
 
 -- the period is twice its half, and one
 whole : (c : Start) → c.args.period ≡ c.args.period / 2 + c.args.period / 2 + 1
-whole c = odd c.requires.0.shaped.tapped c.requires.1
+whole c = odd c.args.register.accepted.shaped.tapped c.requires.0
 
 -- the windows are places of t
 inside : (c : At-loop-j) → let t = c.args.t.now in (c.loop-j.first < length t) × (c.loop-j.second < length t)
-inside c = omega (arith, windows_lt c.loop-j.invariant.0, c.requires.1, c.requires.2)
+inside c = omega (arith, windows_lt c.loop-j.invariant.0, c.requires.0, c.requires.1)
 
 -- what a test says of its place
 near : (c : After-sample_out_at) → c.sample_out_at.result ≡ tests c.before.before.before.before.before c.loop-j._j
@@ -37,7 +37,7 @@ decides test n h e none true t = sym (some_at test n (h + h) (omega arith) (sym 
 decides test n h e none false t = sym (some-none test n (λ i l. forth_all {Q = λ k. test k ≡ false} none (sym t) i (omega arith)))
 
 pub loop-j-init : goal.loop-j-init
-loop-j-init c = (windows-none c.full_period-first.ensures c.window_at-second.ensures, λ i d. absurd (forth_none i d))
+loop-j-init c = (windows-none c.period-first.ensures c.window_at-second.ensures, λ i d. absurd (forth_none i d))
 
 pub sample_out_at-requires : goal.sample_out_at-requires
 sample_out_at-requires c = (inside (goal.at.sample_out_at-requires c).At-loop-j).0
@@ -70,8 +70,8 @@ returns c =
     decides (tests (goal.at.returns c).Start) c.args.period half (whole (goal.at.returns c).Start) (rw e at c.loop-j.invariant.1) _
     (c.sample_out_at-2.ensures ∙ ap (λ x. sample_out (at c.args.t.now x)) (rw e at w.far))
 
-pub step-first-requires-clause-window_bound : goal.step-first-requires-clause-window_bound
-step-first-requires-clause-window_bound c = ((windows_lt c.loop-j.invariant.0).0)
+pub step-first-requires : goal.step-first-requires
+step-first-requires c = ((windows_lt c.loop-j.invariant.0).0)
 
-pub step-second-requires-clause-window_bound : goal.step-second-requires-clause-window_bound
-step-second-requires-clause-window_bound c = ((windows_lt c.loop-j.invariant.0).1)
+pub step-second-requires : goal.step-second-requires
+step-second-requires c = ((windows_lt c.loop-j.invariant.0).1)

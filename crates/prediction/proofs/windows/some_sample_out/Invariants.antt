@@ -9,4 +9,4 @@ use Rattle.response.proofs.Strands.{Forth, Windows}
 use Rattle.prediction.proofs.windows.some_sample_out.Given as goal
 
 abbrev pub invariant-loop-j : goal.invariant-loop-j
-invariant-loop-j l = Windows l.order l.taps l.half l._j l.first l.second × ((i : ℕ) → Forth l.half l._j i → sample_out (at l.t (window_of l.order l.taps i)) ≡ false)
+invariant-loop-j l = Windows l.register.order l.register.taps l.half l._j l.first l.second × ((i : ℕ) → Forth l.half l._j i → sample_out (at l.t (window_of l.register.order l.register.taps i)) ≡ false)

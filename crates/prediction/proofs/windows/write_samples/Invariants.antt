@@ -7,4 +7,4 @@ use Rattle.response.proofs.Strands.{Forth, Windows}
 use Rattle.prediction.proofs.windows.write_samples.Given as goal
 
 abbrev pub invariant-loop-j : goal.invariant-loop-j
-invariant-loop-j l = Windows l.order l.taps l.half l.j l.first l.second × Placed (pos 0) l.period (λ i. i) (λ i. at l.t (window_of l.order l.taps i)) (Forth l.half l.j) l.initial.out l.out
+invariant-loop-j l = Windows l.register.order l.register.taps l.half l.j l.first l.second × Placed (pos 0) l.period (λ i. i) (λ i. at l.t (window_of l.register.order l.register.taps i)) (Forth l.half l.j) l.initial.out l.out

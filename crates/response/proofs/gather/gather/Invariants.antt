@@ -14,4 +14,4 @@ abbrev pub value : ℕ → ℕ → List ℤ → ℕ → ℕ → ℤ
 value order taps t period k = at t (tag_of order taps (period - k)) -ℤ at t 0
 
 abbrev pub invariant-loop-k : goal.invariant-loop-k
-invariant-loop-k l = Tags l.order l.taps l.half l.k l.first l.second × Placed (pos 0) l.period (λ i. i) (value l.order l.taps l.t l.period) (Back l.half l.k) l.initial.out l.out
+invariant-loop-k l = Tags l.register.order l.register.taps l.half l.k l.first l.second × Placed (pos 0) l.period (λ i. i) (value l.register.order l.register.taps l.t l.period) (Back l.half l.k) l.initial.out l.out

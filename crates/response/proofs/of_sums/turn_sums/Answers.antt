@@ -15,6 +15,6 @@ returns c =
 
 pub finish-requires-clause-room_bound : goal.finish-requires-clause-room_bound
 finish-requires-clause-room_bound c =
-    let N = c.args.order in
-    let long : P N < length c.spread_wide.new.room = omega (arith, c.spread_wide.ensures.long, c.requires.order_in_bounds.2) in (rw (loud N (windows_walk N c.args.taps c.requires.accepted.0) c.spread_wide.ensures long)
-    (quiet_wide (at c.args.y.now) (P N) (omega (arith, small c.requires.accepted.0.shaped.most)) c.requires.accepted.1))
+    let N = c.args.register.order in
+    let long : P N < length c.spread_wide.new.room = omega (arith, c.spread_wide.ensures.long, c.requires.register_in_bounds.2) in (rw (loud N (windows_walk N c.args.register.taps c.args.register.accepted) c.spread_wide.ensures long)
+    (quiet_wide (at c.args.y.now) (P N) (omega (arith, small c.args.register.accepted.shaped.most)) c.requires.y_value))

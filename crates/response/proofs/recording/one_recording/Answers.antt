@@ -74,13 +74,16 @@ unfolding recording_outcome
 returns c =
     let s = (goal.at.returns c).Start in
     let r = (goal.at.returns c).After-room_short in (
-      rw (c.turn.ensures.0, c.turn.ensures.1, c.turn.ensures.2)
+      rw (c.turn.ensures.0, c.turn.ensures.1, c.turn.ensures.2, c.new.ensures.order, c.new.ensures.taps)
           (sym (left (kept s) (made s) c.args.order c.args.taps c.args.y.now (short s) [] (sym (passed r).none) refl
           (sym (tested r) ∙ c.if-room_short.false) (sym c.some_out.ensures ∙ c.if-some_out.false))),
       (passed r).whole,
     )
 
-pub turn-requires-clause-accepted : goal.turn-requires-clause-accepted
-turn-requires-clause-accepted c =
-    let g = passed (goal.at.turn-requires-clause-accepted c).After-room_short in
-    (g.accepted, g.long, sym c.some_out.ensures ∙ c.if-some_out.false)
+pub turn-requires-clause-y_value : goal.turn-requires-clause-y_value
+turn-requires-clause-y_value c =
+    let g = passed (goal.at.turn-requires-clause-y_value c).After-room_short in
+    rw c.new.ensures.order (g.long, sym c.some_out.ensures ∙ c.if-some_out.false)
+
+pub new-requires : goal.new-requires
+new-requires c = (passed (goal.at.new-requires c).After-room_short).accepted

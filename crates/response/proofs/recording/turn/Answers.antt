@@ -15,6 +15,6 @@ returns c =
 
 pub finish-requires-clause-room_bound : goal.finish-requires-clause-room_bound
 finish-requires-clause-room_bound c =
-    let N = c.args.order in
-    let long : P N < length c.spread.new.room = omega (arith, c.spread.ensures.long, c.requires.order_in_bounds.1) in (rw (loud N (windows_walk N c.args.taps c.requires.accepted.0) c.spread.ensures long)
-    (quiet c.args.y.now (P N) c.requires.accepted.1 (omega (arith, small c.requires.accepted.0.shaped.most)) c.requires.accepted.2))
+    let N = c.args.register.order in
+    let long : P N < length c.spread.new.room = omega (arith, c.spread.ensures.long, c.requires.register_in_bounds.1) in (rw (loud N (windows_walk N c.args.register.taps c.args.register.accepted) c.spread.ensures long)
+    (quiet c.args.y.now (P N) c.requires.y_value.0 (omega (arith, small c.args.register.accepted.shaped.most)) c.requires.y_value.1))

@@ -14,13 +14,13 @@ use Rattle.response.proofs.respond.finish.Goals as goal
 
 pub returns : goal.returns
 returns c =
-    let N = c.args.order in
+    let N = c.args.register.order in
     let v = c.args.room.now in
-    let long : P N < length v = omega (arith, c.requires.accepted.1, c.requires.accepted.2) in
+    let long : P N < length v = omega (arith, c.requires.period_in_bounds.0, c.requires.period_in_bounds.1) in
     λ y was laid. (
-      rw c.requires.accepted.1 at c.respond.ensures.0
-          ∙ ap (λ t. put t c.args.out.now) (table_ext (P N) (λ k _. route N c.args.taps c.requires.accepted.0 long laid k)),
-      rw c.requires.accepted.1 at c.fill_front.ensures
+      rw c.requires.period_in_bounds.0 at c.respond.ensures.0
+          ∙ ap (λ t. put t c.args.out.now) (table_ext (P N) (λ k _. route N c.args.register.taps c.args.register.accepted long laid k)),
+      rw c.requires.period_in_bounds.0 at c.fill_front.ensures
           ∙ ap (cleared_wide (P N + 1)) c.respond.ensures.1 ∙ cleared_again N laid (spectrum N v),
-      rw c.requires.accepted.1 at c.fill_front-2.ensures,
+      rw c.requires.period_in_bounds.0 at c.fill_front-2.ensures,
     )

@@ -11,15 +11,15 @@ use Rattle.response.proofs.respond.respond.Goals as goal
 
 pub returns : goal.returns
 returns c =
-    let N = c.args.order in
+    let N = c.args.register.order in
     let v = c.args.room.now in (
       c.gather.ensures
-          ∙ rw (c.transform_room.ensures, c.requires.accepted.1) (ap (λ t. put t c.args.out.now) (table_ext (P N) (λ k _. reads_at N c.args.taps v c.requires.accepted.0 k))),
+          ∙ rw (c.transform_room.ensures, c.requires.period_in_bounds.0) (ap (λ t. put t c.args.out.now) (table_ext (P N) (λ k _. reads_at N c.args.register.taps v c.args.register.accepted k))),
       c.transform_room.ensures,
     )
 
 pub gather-requires-clause-by_index : goal.gather-requires-clause-by_index
 gather-requires-clause-by_index c =
-    let N = c.args.order in
+    let N = c.args.register.order in
     let v = c.args.room.now in
-    let long : P N < length v = omega (arith, c.requires.accepted.1, c.requires.accepted.2) in (λ w h. rw c.transform_room.ensures (bounded N v long c.requires.room_bound w (omega (arith, c.requires.accepted.1))))
+    let long : P N < length v = omega (arith, c.requires.period_in_bounds.0, c.requires.period_in_bounds.1) in (λ w h. rw c.transform_room.ensures (bounded N v long c.requires.room_bound w (omega (arith, c.requires.period_in_bounds.0))))

@@ -1,6 +1,6 @@
 -- `response::spread::spread` meets its contract: after j turns the first j samples of both halves are laid out. Assumes nothing.
 use mathlib.Core.Path.{◌≡◌, ap, ◌∙◌}
-use Prim.Native.Nat.{◌/◌, ◌≤◌, ◌<◌}
+use Prim.Native.Nat.{◌/◌, ◌<◌}
 use native.Mathlib.Omega.{arith}
 use lib.ListN.{length}
 use mir.Syntax.{w64}
@@ -11,39 +11,36 @@ use Rattle.response.proofs.Strands.{odd, windows_lt}
 use Rattle.response.proofs.spread.spread.Goals as goal
 use Rattle.response.proofs.spread.spread.Goals.{At-loop-j}
 
--- the order, and the half of the period
-most : (c : At-loop-j) → c.args.order ≤ 16
-most c = c.requires.accepted.shaped.most
-
-halved : (c : At-loop-j) → let a = c.args in length a.y.now / 2 ≡ P a.order / 2
-halved c = ap (λ n. n / 2) c.requires.y_len.0
+-- the half of the period
+halved : (c : At-loop-j) → let a = c.args in length a.y.now / 2 ≡ P a.register.order / 2
+halved c = ap (λ n. n / 2) c.requires.0
 
 -- the windows lie in the room
 inside : (c : At-loop-j) → (c.loop-j.first < length c.loop-j.room) × (c.loop-j.second < length c.loop-j.room)
 inside c = omega (arith, windows_lt c.loop-j.invariant.windows, c.loop-j.invariant.placed.long)
 
 pub loop-j-init : goal.loop-j-init
-loop-j-init c = walked_none c.full_period-first.ensures c.window_at-second.ensures
+loop-j-init c = walked_none c.period-first.ensures c.window_at-second.ensures
 
 pub lay_two-requires : goal.lay_two-requires
 lay_two-requires c = inside (goal.at.lay_two-requires c).At-loop-j
 
 pub loop-j-preserved : goal.loop-j-preserved
 loop-j-preserved c =
-    walked_more c.requires.accepted (halved (goal.at.loop-j-preserved c).At-loop-j) c.requires.y_len.1 c.loop-j.invariant (omega arith) (read w64 _ c.widened.type_inv ∙ c.widened.ensures) (read w64 _ c.widened-in-loop-j.type_inv ∙ c.widened-in-loop-j.ensures) c.lay_two.ensures c.step-first.ensures c.step-second.ensures
+    walked_more c.args.register.accepted (halved (goal.at.loop-j-preserved c).At-loop-j) c.requires.1 c.loop-j.invariant (omega arith) (read w64 _ c.widened.type_inv ∙ c.widened.ensures) (read w64 _ c.widened-in-loop-j.type_inv ∙ c.widened-in-loop-j.ensures) c.lay_two.ensures c.step-first.ensures c.step-second.ensures
 
 pub widened-requires-2 : goal.widened-requires-2
-widened-requires-2 c = omega (arith, odd c.requires.accepted.shaped.tapped c.requires.y_len.0)
+widened-requires-2 c = omega (arith, odd c.args.register.accepted.shaped.tapped c.requires.0)
 
 pub lay_two-requires-2 : goal.lay_two-requires-2
 lay_two-requires-2 c = ((inside (goal.at.lay_two-requires-2 c).At-loop-j).1, omega (arith, inside (goal.at.lay_two-requires-2 c).At-loop-j))
 
 pub returns : goal.returns
 returns c =
-    walked_all c.requires.accepted (halved (goal.at.returns c).At-loop-j) c.requires.y_len.1 c.loop-j.invariant (omega arith) (read w64 _ c.widened-2.type_inv ∙ c.widened-2.ensures) c.lay_two-2.ensures
+    walked_all c.args.register.accepted (halved (goal.at.returns c).At-loop-j) c.requires.1 c.loop-j.invariant (omega arith) (read w64 _ c.widened-2.type_inv ∙ c.widened-2.ensures) c.lay_two-2.ensures
 
-pub step-first-requires-clause-window_bound : goal.step-first-requires-clause-window_bound
-step-first-requires-clause-window_bound c = ((windows_lt c.loop-j.invariant.windows).0)
+pub step-first-requires : goal.step-first-requires
+step-first-requires c = ((windows_lt c.loop-j.invariant.windows).0)
 
-pub step-second-requires-clause-window_bound : goal.step-second-requires-clause-window_bound
-step-second-requires-clause-window_bound c = ((windows_lt c.loop-j.invariant.windows).1)
+pub step-second-requires : goal.step-second-requires
+step-second-requires c = ((windows_lt c.loop-j.invariant.windows).1)

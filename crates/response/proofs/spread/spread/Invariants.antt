@@ -4,4 +4,4 @@ use Rattle.response.proofs.Laying.{Walked}
 use Rattle.response.proofs.spread.spread.Given as goal
 
 abbrev pub invariant-loop-j : goal.invariant-loop-j
-invariant-loop-j l = Walked l.order l.taps l.half (at l.y) l.initial.room l.j l.first l.second l.room
+invariant-loop-j l = Walked l.register.order l.register.taps l.half (at l.y) l.initial.room l.j l.first l.second l.room

@@ -9,4 +9,4 @@ use Rattle.response.proofs.Strands.{Back, Tags}
 use Rattle.response.proofs.spread.spread_back.Given as goal
 
 abbrev pub invariant-loop-i : goal.invariant-loop-i
-invariant-loop-i l = Tags l.order l.taps l.half l.i l.first l.second × Placed (pos 0) (P l.order) (λ j. tag_of l.order l.taps (P l.order - j)) (at l.h) (Back l.half l.i) l.initial.room l.room
+invariant-loop-i l = Tags l.register.order l.register.taps l.half l.i l.first l.second × Placed (pos 0) (P l.register.order) (λ j. tag_of l.register.order l.register.taps (P l.register.order - j)) (at l.h) (Back l.half l.i) l.initial.room l.room

@@ -21,10 +21,10 @@ use Rattle.sums.proofs.Scanning.{best_one, best_more, best_all}
 use Rattle.trend.proofs.measuring.read_extremes.Invariants.{value, plain, minus, sized}
 use Rattle.trend.proofs.measuring.read_extremes.Goals as goal
 
-module _ (order taps period : ℕ) (t : List ℤ) (a : Accepted order taps × (period ≡ P order) × (period < length t)) where
+module _ (order taps period : ℕ) (t : List ℤ) (a : Accepted order taps) (p : (period ≡ P order) × (period < length t)) where
   -- the tags are below 2 ^ order, and the first is 1
   below : (m : ℕ) → tag_of order taps m < 2 ^ order
-  below = tag-lt order taps a.0.shaped.tapped
+  below = tag-lt order taps a.shaped.tapped
 
   one : 1 < 2 ^ order
   unfolding tag_of
@@ -35,15 +35,15 @@ module _ (order taps period : ℕ) (t : List ℤ) (a : Accepted order taps × (p
       → (w < length t) × (nat_abs (at t w) < 2 ^ 62) × (nat_abs (at t 0) < 2 ^ 62)
   readable small m w e =
       let h = below m in
-      (omega (arith, a.1, a.2), small w (omega (arith, a.1)), small 0 (omega arith))
+      (omega (arith, p.0, p.1), small w (omega (arith, p.0)), small 0 (omega arith))
 
   -- the next tag is that of the delay one longer, the first of the delay 1
   first : (x : ℕ) → x ≡ tag_step_of order taps 1 → x ≡ tag_of order taps 1
   unfolding tag_of
-  first x s = tag-next order taps a.0.shaped.tapped {m = 0} refl refl s
+  first x s = tag-next order taps a.shaped.tapped {m = 0} refl refl s
 
   next : (i tag x : ℕ) → tag ≡ tag_of order taps i → x ≡ tag_step_of order taps tag → x ≡ tag_of order taps (i + 1)
-  next i tag x h s = tag-next order taps a.0.shaped.tapped h (omega arith) s
+  next i tag x h s = tag-next order taps a.shaped.tapped h (omega arith) s
 
   -- what was read is what stands at the place of that delay
   here : (i w : ℕ) → i ≤ period → w ≡ tag_of order taps i → at t w -ℤ at t 0 ≡ value order taps t period (period - i)
@@ -74,37 +74,37 @@ pub reading-highest-requires : goal.reading-highest-requires
 reading-highest-requires c =
     let a = c.args in
     let r = c.requires in
-    readable a.order a.taps a.period a.t.now r.accepted r.by_index _ c.tag_step-tag.result (first a.order a.taps a.period a.t.now r.accepted _ c.tag_step-tag.ensures)
+    readable a.register.order a.register.taps a.period a.t.now a.register.accepted r.period_in_bounds r.by_index _ c.tag_step-tag.result (first a.register.order a.register.taps a.period a.t.now a.register.accepted r.period_in_bounds _ c.tag_step-tag.ensures)
 
 pub loop-init : goal.loop-init
 loop-init c =
     let a = c.args in
-    let r = c.requires.accepted in
-    let v = value a.order a.taps a.t.now a.period in
-    let some : 1 ≤ a.period = omega (arith, one a.order a.taps a.period a.t.now r, r.1) in
-    let f = first a.order a.taps a.period a.t.now r _ c.tag_step-tag.ensures in
+    let r = c.requires.period_in_bounds in
+    let v = value a.register.order a.register.taps a.t.now a.period in
+    let some : 1 ≤ a.period = omega (arith, one a.register.order a.register.taps a.period a.t.now a.register.accepted r, r.0) in
+    let f = first a.register.order a.register.taps a.period a.t.now a.register.accepted r _ c.tag_step-tag.ensures in
     let e : suc (a.period - 1) ≡ a.period = omega arith in
     let z : to_z w64 (of_z w64 c.reading-highest.result) ≡ v (a.period - 1) =
-    read w64 c.reading-highest.result c.reading-highest.type_inv ∙ c.reading-highest.ensures ∙ here a.order a.taps a.period a.t.now r 1 _ some f in
+    read w64 c.reading-highest.result c.reading-highest.type_inv ∙ c.reading-highest.ensures ∙ here a.register.order a.register.taps a.period a.t.now a.register.accepted r 1 _ some f in
     (some, f, best_one plain v _ e z, best_one minus v _ e z, best_one sized v _ e z)
 
 pub reading-z-requires : goal.reading-z-requires
 reading-z-requires c =
     let a = c.args in
     let r = c.requires in
-    readable a.order a.taps a.period a.t.now r.accepted r.by_index _ c.tag_step-tag-in-loop.result
-    (next a.order a.taps a.period a.t.now r.accepted c.loop.counter c.loop.tag _ c.loop.invariant.1 c.tag_step-tag-in-loop.ensures)
+    readable a.register.order a.register.taps a.period a.t.now a.register.accepted r.period_in_bounds r.by_index _ c.tag_step-tag-in-loop.result
+    (next a.register.order a.register.taps a.period a.t.now a.register.accepted r.period_in_bounds c.loop.counter c.loop.tag _ c.loop.invariant.1 c.tag_step-tag-in-loop.ensures)
 
 pub loop-preserved : goal.loop-preserved
 loop-preserved c =
     let a = c.args in
-    let r = c.requires.accepted in
+    let r = c.requires.period_in_bounds in
     let n = c.loop.counter in
-    let v = value a.order a.taps a.t.now a.period in
-    let f = next a.order a.taps a.period a.t.now r n c.loop.tag _ c.loop.invariant.1 c.tag_step-tag-in-loop.ensures in
+    let v = value a.register.order a.register.taps a.t.now a.period in
+    let f = next a.register.order a.register.taps a.period a.t.now a.register.accepted r n c.loop.tag _ c.loop.invariant.1 c.tag_step-tag-in-loop.ensures in
     let less : n + 1 ≤ a.period = omega arith in
     let z : to_z w64 (of_z w64 c.reading-z.result) ≡ v (a.period - (n + 1)) =
-    read w64 c.reading-z.result c.reading-z.type_inv ∙ c.reading-z.ensures ∙ here a.order a.taps a.period a.t.now r (n + 1) _ less f in
+    read w64 c.reading-z.result c.reading-z.type_inv ∙ c.reading-z.ensures ∙ here a.register.order a.register.taps a.period a.t.now a.register.accepted r (n + 1) _ less f in
     let e : a.period - n ≡ suc (a.period - (n + 1)) = omega arith in
     let i = rw e at c.loop.invariant in (
       less,
@@ -117,12 +117,12 @@ loop-preserved c =
 pub returns : goal.returns
 returns c =
     let a = c.args in
-    let v = value a.order a.taps a.t.now a.period in
+    let v = value a.register.order a.register.taps a.t.now a.period in
     let e : a.period - c.loop.counter ≡ 0 = omega arith in
     let i = rw e at c.loop.invariant in
     rw (best_all plain v _ i.2, best_all minus v _ i.3, best_all sized v _ i.4)
 
-pub tag_step-tag-requires-in-loop-clause-tag_bound : goal.tag_step-tag-requires-in-loop-clause-tag_bound
-tag_step-tag-requires-in-loop-clause-tag_bound c =
+pub tag_step-tag-requires-in-loop : goal.tag_step-tag-requires-in-loop
+tag_step-tag-requires-in-loop c =
     let a = c.args in
-    rw c.loop.invariant.1 (below a.order a.taps a.period a.t.now c.requires.accepted c.loop.counter)
+    rw c.loop.invariant.1 (below a.register.order a.register.taps a.period a.t.now a.register.accepted c.requires.period_in_bounds c.loop.counter)

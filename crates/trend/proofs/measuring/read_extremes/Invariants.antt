@@ -25,8 +25,8 @@ sized z = pos (nat_abs z)
 
 abbrev pub invariant-loop : goal.invariant-loop
 invariant-loop l =
-    let v = value l.order l.taps l.t l.period in
-    (l.counter ≤ l.period) × (l.tag ≡ tag_of l.order l.taps l.counter)
+    let v = value l.register.order l.register.taps l.t l.period in
+    (l.counter ≤ l.period) × (l.tag ≡ tag_of l.register.order l.register.taps l.counter)
     × Best plain v l.period (l.period - l.counter) l.highest
     × Best minus v l.period (l.period - l.counter) l.lowest
     × Best sized v l.period (l.period - l.counter) l.peak

@@ -16,7 +16,7 @@ use Rattle.samples.specs.Samples.{cleared_wide, cleared_tags}
 use Rattle.records.specs.Record.{standing, days_in}
 use Rattle.records.specs.declared.Campaign.{Campaign}
 use Rattle.records.proofs.Totals.{sum_small}
-use Rattle.trend.specs.Calls.{summary_checks, worked, divisor, level, levels_of, summary_outcome}
+use Rattle.trend.specs.Calls.{summary_checks, worked, divisor, level, levels_of, extremes_of, summary_outcome}
 use Rattle.trend.specs.declared.Extremes.{Extremes}
 use Rattle.trend.specs.declared.Levels.{Levels}
 use Rattle.trend.specs.declared.Summary.{Summary}
@@ -24,7 +24,7 @@ use Rattle.trend.specs.declared.Summary.TheVariants as summary
 use Rattle.trend.proofs.Bounds.{divisor-some, divisor_small, extremes_small}
 use Rattle.trend.proofs.Passing.{Measures, measures}
 use Rattle.trend.proofs.summarising.summary.Goals as goal
-use Rattle.trend.proofs.summarising.summary.Goals.{After-days_in, Else-days_in-eq0, In_default}
+use Rattle.trend.proofs.summarising.summary.Goals.{After-days_in, After-measure-extremes, Else-days_in-eq0, In_default}
 
 module _ (c : Campaign) (store sums room : List ℤ) (tags : List ℕ) (n : ℕ) (e : n ≡ first (summary_checks c store sums room tags)) where
   -- what is handed back where a day stands, and where none does
@@ -60,6 +60,13 @@ ready c = let a = c.args in measures a.c a.store.now a.sums.now a.room.now a.tag
 standing-are : (c : After-days_in) → c.days_in.result ≡ days_in c.args.c standing
 standing-are c = c.days_in.ensures
 
+-- what was measured is of the record's order and taps
+worked-by : (c : After-measure-extremes) → let a = c.args in
+    (c.measure-extremes.result ≡ extremes_of (P a.c.order) (worked a.c a.sums.now))
+    × (c.measure-extremes.new.room ≡ cleared_wide (P a.c.order + 1) a.room.now)
+    × (c.measure-extremes.new.tags ≡ cleared_tags (P a.c.order) a.tags.now)
+worked-by c = rw (c.new.ensures.order, c.new.ensures.taps) at c.measure-extremes.ensures
+
 some : (c : Else-days_in-eq0) → days_in c.args.c standing ≡ 0 → ⊥
 some c z = c.if-days_in-eq0.false (c.days_in.ensures ∙ z)
 
@@ -83,25 +90,29 @@ divisor_of-divisor-requires c =
 pub returns : goal.returns
 returns c =
     let a = c.args in
+    let m = worked-by (goal.at.returns c).After-measure-extremes in
     measured a.c a.store.now a.sums.now a.room.now a.tags.now 0 c.in_default.ensures refl (some (goal.at.returns c).Else-days_in-eq0)
-    (c.levels_of.ensures ∙ ap₂ over c.measure-extremes.ensures.0 c.divisor_of-divisor.ensures) c.measure-extremes.ensures.1 c.measure-extremes.ensures.2
+    (c.levels_of.ensures ∙ ap₂ over m.0 c.divisor_of-divisor.ensures) m.1 m.2
 
-pub measure-extremes-requires-clause-accepted : goal.measure-extremes-requires-clause-accepted
-measure-extremes-requires-clause-accepted c =
-    let a = c.args in
-    let r = ready (goal.at.measure-extremes-requires-clause-accepted c).In_default in ((r.whole.filed.accepted, sum_small a.c a.store.now a.sums.now r.whole))
+pub new-requires : goal.new-requires
+new-requires c = (ready (goal.at.new-requires c).In_default).whole.filed.accepted
 
-pub measure-extremes-requires-clause-order_in_bounds : goal.measure-extremes-requires-clause-order_in_bounds
-measure-extremes-requires-clause-order_in_bounds c =
+pub measure-extremes-requires-clause-y_value : goal.measure-extremes-requires-clause-y_value
+measure-extremes-requires-clause-y_value c =
     let a = c.args in
-    let r = ready (goal.at.measure-extremes-requires-clause-order_in_bounds c).In_default in ((r.whole.sums_long, r.room_long, r.tags_long))
+    let r = ready (goal.at.measure-extremes-requires-clause-y_value c).In_default in rw c.new.ensures.order (sum_small a.c a.store.now a.sums.now r.whole)
+
+pub measure-extremes-requires-clause-register_in_bounds : goal.measure-extremes-requires-clause-register_in_bounds
+measure-extremes-requires-clause-register_in_bounds c =
+    let a = c.args in
+    let r = ready (goal.at.measure-extremes-requires-clause-register_in_bounds c).In_default in rw c.new.ensures.order (r.whole.sums_long, r.room_long, r.tags_long)
 
 pub levels_of-requires-clause-highest_bound : goal.levels_of-requires-clause-highest_bound
 levels_of-requires-clause-highest_bound c =
     let a = c.args in
     let r = ready (goal.at.levels_of-requires-clause-highest_bound c).In_default in
     let s = extremes_small a.c a.store.now a.sums.now r.whole in
-    let e = c.measure-extremes.ensures.0 in ((
+    let e = (worked-by (goal.at.levels_of-requires-clause-highest_bound c).After-measure-extremes).0 in ((
       omega (arith, ap (λ x. nat_abs x.highest) e, s.0),
       omega (arith, ap (λ x. nat_abs x.lowest) e, s.1),
       omega (arith, ap (λ x. nat_abs x.peak) e, s.2),
@@ -111,5 +122,4 @@ pub levels_of-requires-clause-d_nonzero : goal.levels_of-requires-clause-d_nonze
 levels_of-requires-clause-d_nonzero c =
     let a = c.args in
     let r = ready (goal.at.levels_of-requires-clause-d_nonzero c).In_default in
-    let s = extremes_small a.c a.store.now a.sums.now r.whole in
-    let e = c.measure-extremes.ensures.0 in ((omega (arith, c.divisor_of-divisor.ensures, divisor-some a.c r.whole.filed (some (goal.at.levels_of-requires-clause-d_nonzero c).Else-days_in-eq0)), omega (arith, c.divisor_of-divisor.ensures, divisor_small a.c r.whole.filed)))
+    ((omega (arith, c.divisor_of-divisor.ensures, divisor-some a.c r.whole.filed (some (goal.at.levels_of-requires-clause-d_nonzero c).Else-days_in-eq0)), omega (arith, c.divisor_of-divisor.ensures, divisor_small a.c r.whole.filed)))
