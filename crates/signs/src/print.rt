@@ -1,13 +1,10 @@
 // Signs and refusals on standard output.
-use lines::print::{number, word};
+use lines::print::word;
+use refusals::Refusal;
 
 // - for -1, + for +1.
 pub fn mark(rt: &impl Print, minus: bool) {
-    if minus {
-        word(rt, b"-");
-    } else {
-        word(rt, b"+");
-    }
+    word(rt, if minus { "-" } else { "+" });
 }
 
 pub fn marks(rt: &impl Print, signs: &[i8]) {
@@ -16,7 +13,6 @@ pub fn marks(rt: &impl Print, signs: &[i8]) {
     }
 }
 
-pub fn refusal(rt: &impl Print, answer: u32) {
-    word(rt, b"refused");
-    number(rt, answer as u64);
+pub fn refused(rt: &impl Print, refusal: Refusal) {
+    let _ = print!(rt; "refused {}", refusal.number());
 }
