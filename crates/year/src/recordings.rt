@@ -107,7 +107,7 @@ fn widen(y: &mut [i32], i: usize)
 
 // A run-in has a sample at a rail, which is no overload.
 fn mark_run_in(y: &mut [i32], i: usize) {
-    if y.len() == 0 {
+    if y.is_empty() {
         return;
     }
     let place = place_of(i, y.len());

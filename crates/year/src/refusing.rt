@@ -1,5 +1,5 @@
 // Every refusal that the visits do not bring, and what is just enough room.
-ghost use Rattle.std.specs.Prelude.{◌≤◌, ◌<◌, nat_abs};
+ghost use Rattle.std.specs.Prelude.{◌≤◌, ◌<◌};
 ghost use Rattle.year.specs.Lent.{places, Runs};
 
 use crate::calls::{
@@ -110,93 +110,47 @@ fn short_rooms(rt: &impl Print, held: &mut Held, store: &Store, plan: Plan)
     least_rooms(rt, held, store, period);
 }
 
-// By one more or one less, where it is small.
-fn shifted(v: i64, by: i64) -> i64
-    requires { nat_abs by ≤ 1 }
-{
-    if v < -1000000000000 {
-        return v;
-    }
-    if 1000000000000 < v {
-        return v;
-    }
-    v + by
-}
-
-fn shift_sum(held: &mut Held, by: i64)
-    requires { nat_abs by ≤ 1 }
-{
-    held.sums[0] = shifted(held.sums[0], by);
-}
-
 // Calls with one more in sum 0, and then one less in it.
 fn wrong_sums(rt: &impl Print, held: &mut Held, store: &mut Store, plan: Plan)
     requires { Runs plan }
 {
     let period = plan.period;
     record(held, plan, REFUSED_VISIT);
-    shift_sum(held, 1);
+    held.sums[0] = held.sums[0].wrapping_add(1);
     enter_line(rt, held, store, 1, Night::Period, period);
     withdraw_line(rt, held, store, 1);
     answers(rt, held, store);
-    shift_sum(held, -1);
+    held.sums[0] = held.sums[0].wrapping_sub(1);
 }
 
 fn wrong_orders(rt: &impl Print, held: &mut Held, store: &mut Store, plan: Plan) {
-    let taps = plan.taps;
-    let capacity = plan.capacity;
-    start_line(
-        rt,
-        held,
-        store,
-        LEAST_ORDER - 1,
-        taps,
-        capacity,
-        STORE,
-        PLACES,
-    );
-    start_line(
-        rt,
-        held,
-        store,
-        MOST_ORDER + 1,
-        taps,
-        capacity,
-        STORE,
-        PLACES,
-    );
+    for order in [LEAST_ORDER - 1, MOST_ORDER + 1] {
+        start_line(rt, held, store, Plan { order, ..plan }, STORE, PLACES);
+    }
 }
 
 // Not below 2^N, with tap 0 clear, and of a register that is not maximal.
 fn wrong_taps(rt: &impl Print, held: &mut Held, store: &mut Store, plan: Plan)
     requires { Runs plan }
 {
-    let order = plan.order;
-    let capacity = plan.capacity;
-    let beyond = plan.period as u32 + 1;
-    start_line(rt, held, store, order, beyond, capacity, STORE, PLACES);
-    start_line(rt, held, store, order, 2, capacity, STORE, PLACES);
-    start_line(rt, held, store, order, 1, capacity, STORE, PLACES);
+    for taps in [plan.period as u32 + 1, 2, 1] {
+        start_line(rt, held, store, Plan { taps, ..plan }, STORE, PLACES);
+    }
 }
 
 fn wrong_slots(rt: &impl Print, held: &mut Held, store: &mut Store, plan: Plan) {
-    let order = plan.order;
-    let taps = plan.taps;
-    start_line(rt, held, store, order, taps, 0, STORE, PLACES);
-    start_line(rt, held, store, order, taps, MOST_SLOTS + 1, STORE, PLACES);
+    for capacity in [0, MOST_SLOTS + 1] {
+        start_line(rt, held, store, Plan { capacity, ..plan }, STORE, PLACES);
+    }
 }
 
 // The store one short, and the sums.
 fn short_starts(rt: &impl Print, held: &mut Held, store: &mut Store, plan: Plan)
     requires { Runs plan }
 {
-    let order = plan.order;
-    let taps = plan.taps;
-    let capacity = plan.capacity;
-    let period = plan.period;
-    let samples = capacity as usize * period;
-    start_line(rt, held, store, order, taps, capacity, samples - 1, PLACES);
-    start_line(rt, held, store, order, taps, capacity, STORE, period - 1);
+    let samples = plan.capacity as usize * plan.period;
+    start_line(rt, held, store, plan, samples - 1, PLACES);
+    start_line(rt, held, store, plan, STORE, plan.period - 1);
 }
 
 fn wrong_starts(rt: &impl Print, held: &mut Held, store: &mut Store, plan: Plan)

@@ -77,12 +77,9 @@ fn last_withdrawals(rt: &impl Print, held: &mut Held, store: &mut Store, lag: us
 
 // The planned campaign on filled memory, its record begun.
 fn started(rt: &impl Print, plan: Plan, store: &mut Store) -> Held {
-    let order = plan.order;
-    let taps = plan.taps;
-    let capacity = plan.capacity;
     fill_store(store);
-    let mut held = filled(blank(order, taps, capacity, AWAY_FROM_ZERO));
-    start_line(rt, &mut held, store, order, taps, capacity, STORE, PLACES);
+    let mut held = filled(blank(plan.order, plan.taps, plan.capacity, AWAY_FROM_ZERO));
+    start_line(rt, &mut held, store, plan, STORE, PLACES);
     held
 }
 
