@@ -1,8 +1,8 @@
 // Each call with its line.
-ghost use Rattle.std.specs.Prelude.{◌≤◌, length};
-ghost use Rattle.year.specs.Lent.{places, recording, tag_places, Within};
+ghost use Rattle.std.specs.Prelude.{◌≤◌};
+ghost use Rattle.year.specs.Lent.{store_places, places, recording, tag_places, Within};
 
-use crate::{Held, PLACES, Plan, Store, TAGS};
+use crate::{Held, PLACES, Plan, TAGS};
 use campaign::entering::enter;
 use campaign::starting::start;
 use campaign::withdrawing::withdraw;
@@ -19,16 +19,11 @@ use trend::counting::counts;
 use trend::summarising::summary;
 
 // The planned campaign started with the front parts of these lengths.
-pub fn start_line(
-    rt: &impl Print,
-    held: &mut Held,
-    store: &mut [i32],
-    plan: Plan,
-    samples: usize,
-    wide: usize,
-)
-    requires { (samples ≤ length store.old) × (wide ≤ places) }
+pub fn start_line(rt: &impl Print, held: &mut Held, plan: Plan, samples: usize, wide: usize)
+    requires { (samples ≤ store_places) × (wide ≤ places) }
 {
+    let store = &mut held.store[..];
+    let sums = &mut held.sums[..];
     let started = start(
         held.campaign,
         plan.order,
@@ -36,7 +31,7 @@ pub fn start_line(
         plan.capacity,
         AWAY_FROM_ZERO,
         &mut store[..samples],
-        &mut held.sums[..wide],
+        &mut sums[..wide],
     );
     held.campaign = started.campaign;
     let _ = println!(rt; "start {}", number_told(started.answer));
@@ -65,19 +60,12 @@ fn entry_words(rt: &impl Print, night: Night, entry: Entry) {
 }
 
 // The first samples of the recording at hand, entered as this night.
-pub fn enter_line(
-    rt: &impl Print,
-    held: &mut Held,
-    store: &mut Store,
-    d: u32,
-    night: Night,
-    samples: usize,
-)
+pub fn enter_line(rt: &impl Print, held: &mut Held, d: u32, night: Night, samples: usize)
     requires { samples ≤ recording }
 {
     let entered = enter(
         held.campaign,
-        store,
+        &mut held.store,
         &mut held.sums,
         d,
         night,
@@ -87,14 +75,14 @@ pub fn enter_line(
     entry_words(rt, night, entered.entry);
 }
 
-pub fn withdraw_line(rt: &impl Print, held: &mut Held, store: &mut Store, d: u32) {
-    let withdrawn = withdraw(held.campaign, store, &mut held.sums, d);
+pub fn withdraw_line(rt: &impl Print, held: &mut Held, d: u32) {
+    let withdrawn = withdraw(held.campaign, &mut held.store, &mut held.sums, d);
     held.campaign = withdrawn.campaign;
     let _ = println!(rt; "withdraw {d} {}", number_told(withdrawn.answer));
 }
 
-fn counts_line(rt: &impl Print, held: &Held, store: &Store) {
-    let _ = match counts(held.campaign, store, &held.sums) {
+fn counts_line(rt: &impl Print, held: &Held) {
+    let _ = match counts(held.campaign, &held.store, &held.sums) {
         Ok(t) => println!(rt;
             "counts 0 {} {} {} {} {}",
             t.unseen, t.standing, t.overloaded, t.dead, t.withdrawn
@@ -122,7 +110,6 @@ fn response_words(rt: &impl Print, answer: Result<(), Refusal>, held: &Held) {
 pub fn response_line(
     rt: &impl Print,
     held: &mut Held,
-    store: &Store,
     values: usize,
     means: usize,
     wide: usize,
@@ -130,14 +117,13 @@ pub fn response_line(
 )
     requires { Within values means wide tagged }
 {
-    let c = held.campaign;
     let r = &mut held.r[..];
     let mean = &mut held.mean[..];
     let room = &mut held.room[..];
     let tags = &mut held.tags[..];
     let answer = response(
-        c,
-        store,
+        held.campaign,
+        &held.store,
         &held.sums,
         &mut r[..values],
         &mut mean[..means],
@@ -161,29 +147,34 @@ fn summary_words(rt: &impl Print, s: Summary) {
 }
 
 // A summary with the front parts of these lengths.
-pub fn summary_line(rt: &impl Print, held: &mut Held, store: &Store, wide: usize, tagged: usize)
+pub fn summary_line(rt: &impl Print, held: &mut Held, wide: usize, tagged: usize)
     requires { (wide ≤ places) × (tagged ≤ tag_places) }
 {
-    let c = held.campaign;
     let room = &mut held.room[..];
     let tags = &mut held.tags[..];
-    let told = summary(c, store, &held.sums, &mut room[..wide], &mut tags[..tagged]);
-    summary_words(rt, told);
+    let found = summary(
+        held.campaign,
+        &held.store,
+        &held.sums,
+        &mut room[..wide],
+        &mut tags[..tagged],
+    );
+    summary_words(rt, found);
     rooms(rt, held);
 }
 
-pub fn memory_line(rt: &impl Print, held: &Held, store: &Store) {
-    let _ = println!(rt; "memory {} {}", digest(store), digest(&held.sums));
+pub fn memory_line(rt: &impl Print, held: &Held) {
+    let _ = println!(rt; "memory {} {}", digest(&held.store), digest(&held.sums));
 }
 
 // Counts, a response and a summary, with all the room there is.
-pub fn answers(rt: &impl Print, held: &mut Held, store: &Store) {
-    counts_line(rt, held, store);
-    response_line(rt, held, store, PLACES, PLACES, PLACES, TAGS);
-    summary_line(rt, held, store, PLACES, TAGS);
+pub fn answers(rt: &impl Print, held: &mut Held) {
+    counts_line(rt, held);
+    response_line(rt, held, PLACES, PLACES, PLACES, TAGS);
+    summary_line(rt, held, PLACES, TAGS);
 }
 
-pub fn ask(rt: &impl Print, held: &mut Held, store: &Store) {
-    answers(rt, held, store);
-    memory_line(rt, held, store);
+pub fn ask(rt: &impl Print, held: &mut Held) {
+    answers(rt, held);
+    memory_line(rt, held);
 }

@@ -20,18 +20,11 @@ pub const TAGS: usize = 1100;
 
 pub const RECORDING: usize = 2600;
 
-// The rails, the least and the greatest sample.
-pub const LOWEST: i32 = -8388608;
-
-pub const HIGHEST: i32 = 8388607;
-
-// The samples that a campaign's slots hold.
-pub type Store = [i32; STORE];
-
-// A campaign's record with all else that its calls are lent: the sums, the recording at hand, and the rooms for an answer.
+// A campaign's record with all else that its calls are lent: the store, the sums, the recording at hand, and the rooms for an answer.
 #[derive(Drop)]
 pub struct Held {
     pub campaign: Campaign,
+    pub store: [i32; STORE],
     pub sums: [i64; PLACES],
     pub y: [i32; RECORDING],
     pub r: [i64; PLACES],
@@ -52,7 +45,6 @@ pub struct Plan {
 }
 
 fn main(rt: HostRuntime) {
-    let mut store: Store = [0; STORE];
     let small = Plan {
         order: 3,
         taps: 3,
@@ -69,6 +61,6 @@ fn main(rt: HostRuntime) {
         lag: 60,
         most: 4,
     };
-    campaign_lines(&rt, small, &mut store);
-    campaign_lines(&rt, large, &mut store);
+    campaign_lines(&rt, small);
+    campaign_lines(&rt, large);
 }

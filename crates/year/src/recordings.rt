@@ -3,10 +3,11 @@ ghost use Rattle.std.specs.Prelude.{ℕ, ◌^◌, ◌≤◌, ◌<◌, length};
 ghost use Rattle.nights.specs.Nights.{periods_of};
 ghost use Rattle.year.specs.Lent.{recording, visits, Runs};
 
-use crate::{HIGHEST, Held, LOWEST, Plan};
+use crate::{Held, Plan};
 use nights::Night;
 use nights::shape::{night_length, run_in};
 use records::DAYS;
+use samples::{HIGHEST_SAMPLE, LOWEST_SAMPLE};
 
 pub fn day_of(i: usize) -> u32
     requires { i < visits }
@@ -19,18 +20,17 @@ pub fn night_of(i: usize, most: usize) -> Night
     requires { (1 ≤ most) × (most ≤ 16) }
     ensures { (1 ≤ periods_of result) × (periods_of result ≤ most) }
 {
-    let kind = i % 5;
-    if kind == 2 || kind == 4 {
-        return Night::Capture((i / 5 % most + 1) as u32);
+    match i % 5 {
+        2 | 4 => Night::Capture((i / 5 % most + 1) as u32),
+        _ => Night::Period,
     }
-    Night::Period
 }
 
-// The sample that lies so far above the smallest one between the rails, -HIGHEST.
+// The sample that lies so far above the smallest one between the rails, -HIGHEST_SAMPLE.
 fn up_by(n: usize) -> i32
     requires { n < 2 ^ 25 }
 {
-    n as i32 - HIGHEST
+    n as i32 - HIGHEST_SAMPLE
 }
 
 // A sample strictly between the rails.
@@ -51,13 +51,11 @@ fn spread(i: usize) -> usize
 fn smallest(i: usize) -> usize
     ensures { result < 2 ^ 24 }
 {
-    if i % 3 == 0 {
-        return 0;
+    match i % 3 {
+        0 => 0,
+        1 => 16777213 - spread(i),
+        _ => 8388507 + i % 200,
     }
-    if i % 3 == 1 {
-        return 16777213 - spread(i);
-    }
-    8388507 + i % 200
 }
 
 fn quiet(i: usize, j: usize) -> i32
@@ -76,7 +74,11 @@ fn write<F: Fn(usize) -> i32>(y: &mut [i32], sample: F)
 }
 
 fn rail(i: usize) -> i32 {
-    if i % 2 == 0 { LOWEST } else { HIGHEST }
+    if i % 2 == 0 {
+        LOWEST_SAMPLE
+    } else {
+        HIGHEST_SAMPLE
+    }
 }
 
 fn place_of(i: usize, n: usize) -> usize
@@ -92,7 +94,7 @@ fn overload(y: &mut [i32], i: usize)
     let place = place_of(i, y.len());
     let last = y.len() - 1;
     y[place] = rail(i);
-    y[last] = HIGHEST;
+    y[last] = HIGHEST_SAMPLE;
 }
 
 // The smallest and the largest sample of a quiet visit, each at a place.
@@ -107,18 +109,9 @@ fn widen(y: &mut [i32], i: usize)
 
 // A run-in has a sample at a rail, which is no overload.
 fn mark_run_in(y: &mut [i32], i: usize) {
-    if y.is_empty() {
-        return;
-    }
-    let place = place_of(i, y.len());
-    y[place] = HIGHEST;
-}
-
-fn overload_some(y: &mut [i32], i: usize)
-    requires { 0 < length y.old }
-{
-    if i % 11 == 3 {
-        overload(y, i);
+    if !y.is_empty() {
+        let place = place_of(i, y.len());
+        y[place] = HIGHEST_SAMPLE;
     }
 }
 
@@ -129,20 +122,15 @@ fn quieten(y: &mut [i32], i: usize)
     widen(y, i);
 }
 
-fn quieten_some(y: &mut [i32], i: usize)
-    requires { (i < visits) × (0 < length y.old) × (length y.old ≤ recording) }
-{
-    if i % 11 == 7 {
-        quieten(y, i);
-    }
-}
-
 // What is judged of visit i: as a rule kept, now and then overloaded, dead or nearly dead.
 fn disturb(y: &mut [i32], i: usize)
     requires { (i < visits) × (0 < length y.old) × (length y.old ≤ recording) }
 {
-    overload_some(y, i);
-    quieten_some(y, i);
+    match i % 11 {
+        3 => overload(y, i),
+        7 => quieten(y, i),
+        _ => (),
+    }
 }
 
 // The recording of visit i behind a run-in of so many samples.
@@ -159,8 +147,7 @@ pub fn length_of(plan: Plan, i: usize) -> usize
     requires { Runs plan }
     ensures { result ≤ recording }
 {
-    let period = plan.period;
-    night_length(night_of(i, plan.most), period)
+    night_length(night_of(i, plan.most), plan.period)
 }
 
 // The recording of visit i, at hand from here on.

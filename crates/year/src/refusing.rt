@@ -7,170 +7,171 @@ use crate::calls::{
 };
 use crate::recordings::record;
 use crate::signals::refused_signals;
-use crate::{HIGHEST, Held, LOWEST, PLACES, Plan, STORE, Store, TAGS};
+use crate::{Held, PLACES, Plan, STORE, TAGS};
 use nights::{MOST_PERIODS, Night};
 use records::{LAST_DAY, MOST_SLOTS};
 use register::{LEAST_ORDER, MOST_ORDER};
+use samples::{HIGHEST_SAMPLE, LOWEST_SAMPLE};
 
 // The visit at which all this happens, and whose recording is at hand.
 pub const REFUSED_VISIT: usize = 365;
 
-fn wrong_days(rt: &impl Print, held: &mut Held, store: &mut Store, period: usize)
+fn wrong_days(rt: &impl Print, held: &mut Held, period: usize)
     requires { period < places }
 {
-    enter_line(rt, held, store, 0, Night::Period, period);
-    enter_line(rt, held, store, LAST_DAY + 1, Night::Period, period);
+    enter_line(rt, held, 0, Night::Period, period);
+    enter_line(rt, held, LAST_DAY + 1, Night::Period, period);
 }
 
-fn wrong_lengths(rt: &impl Print, held: &mut Held, store: &mut Store, period: usize)
+fn wrong_lengths(rt: &impl Print, held: &mut Held, period: usize)
     requires { (0 < period) × (period < places) }
 {
-    enter_line(rt, held, store, 1, Night::Period, period - 1);
-    enter_line(rt, held, store, 1, Night::Period, period + 1);
+    enter_line(rt, held, 1, Night::Period, period - 1);
+    enter_line(rt, held, 1, Night::Period, period + 1);
 }
 
 // Above the upper rail, and below the lower.
-fn wrong_samples(rt: &impl Print, held: &mut Held, store: &mut Store, period: usize)
+fn wrong_samples(rt: &impl Print, held: &mut Held, period: usize)
     requires { period < places }
 {
-    held.y[0] = HIGHEST + 1;
-    enter_line(rt, held, store, 1, Night::Period, period);
-    held.y[0] = LOWEST - 1;
-    enter_line(rt, held, store, 1, Night::Period, period);
+    held.y[0] = HIGHEST_SAMPLE + 1;
+    enter_line(rt, held, 1, Night::Period, period);
+    held.y[0] = LOWEST_SAMPLE - 1;
+    enter_line(rt, held, 1, Night::Period, period);
 }
 
 // No periods, and more than the most.
-fn wrong_counts(rt: &impl Print, held: &mut Held, store: &mut Store, period: usize)
+fn wrong_counts(rt: &impl Print, held: &mut Held, period: usize)
     requires { period < places }
 {
     let beyond = Night::Capture(MOST_PERIODS + 1);
-    enter_line(rt, held, store, 0, beyond, period);
-    enter_line(rt, held, store, 1, Night::Capture(0), period);
-    enter_line(rt, held, store, 1, beyond, period);
+    enter_line(rt, held, 0, beyond, period);
+    enter_line(rt, held, 1, Night::Capture(0), period);
+    enter_line(rt, held, 1, beyond, period);
 }
 
 // A sample less and a sample more, and as many as there must be, of which the first lies below the lower rail.
-fn wrong_captures(rt: &impl Print, held: &mut Held, store: &mut Store, period: usize)
+fn wrong_captures(rt: &impl Print, held: &mut Held, period: usize)
     requires { (0 < period) × (period < places) }
 {
     let one = Night::Capture(1);
-    enter_line(rt, held, store, 1, one, 2 * period - 1);
-    enter_line(rt, held, store, 1, one, 2 * period + 1);
-    enter_line(rt, held, store, 1, one, 2 * period);
+    enter_line(rt, held, 1, one, 2 * period - 1);
+    enter_line(rt, held, 1, one, 2 * period + 1);
+    enter_line(rt, held, 1, one, 2 * period);
 }
 
-fn wrong_entries(rt: &impl Print, held: &mut Held, store: &mut Store, plan: Plan)
+fn wrong_entries(rt: &impl Print, held: &mut Held, plan: Plan)
     requires { Runs plan }
 {
     let period = plan.period;
-    wrong_days(rt, held, store, period);
-    wrong_lengths(rt, held, store, period);
-    wrong_samples(rt, held, store, period);
-    wrong_counts(rt, held, store, period);
-    wrong_captures(rt, held, store, period);
+    wrong_days(rt, held, period);
+    wrong_lengths(rt, held, period);
+    wrong_samples(rt, held, period);
+    wrong_counts(rt, held, period);
+    wrong_captures(rt, held, period);
 }
 
-fn wrong_withdrawals(rt: &impl Print, held: &mut Held, store: &mut Store) {
-    withdraw_line(rt, held, store, 0);
-    withdraw_line(rt, held, store, LAST_DAY + 1);
+fn wrong_withdrawals(rt: &impl Print, held: &mut Held) {
+    withdraw_line(rt, held, 0);
+    withdraw_line(rt, held, LAST_DAY + 1);
 }
 
 // Each room one short.
-fn short_responses(rt: &impl Print, held: &mut Held, store: &Store, period: usize)
+fn short_responses(rt: &impl Print, held: &mut Held, period: usize)
     requires { (0 < period) × (period < places) }
 {
     let short = period - 1;
-    response_line(rt, held, store, short, PLACES, PLACES, TAGS);
-    response_line(rt, held, store, PLACES, short, PLACES, TAGS);
-    response_line(rt, held, store, PLACES, PLACES, period, TAGS);
-    response_line(rt, held, store, PLACES, PLACES, PLACES, period - 1);
+    response_line(rt, held, short, PLACES, PLACES, TAGS);
+    response_line(rt, held, PLACES, short, PLACES, TAGS);
+    response_line(rt, held, PLACES, PLACES, period, TAGS);
+    response_line(rt, held, PLACES, PLACES, PLACES, period - 1);
 }
 
-fn short_summaries(rt: &impl Print, held: &mut Held, store: &Store, period: usize)
+fn short_summaries(rt: &impl Print, held: &mut Held, period: usize)
     requires { (0 < period) × (period < places) }
 {
-    summary_line(rt, held, store, period, TAGS);
-    summary_line(rt, held, store, PLACES, period - 1);
+    summary_line(rt, held, period, TAGS);
+    summary_line(rt, held, PLACES, period - 1);
 }
 
 // Just as much as they need, which is accepted.
-fn least_rooms(rt: &impl Print, held: &mut Held, store: &Store, period: usize)
+fn least_rooms(rt: &impl Print, held: &mut Held, period: usize)
     requires { period < places }
 {
-    response_line(rt, held, store, period, period, period + 1, period);
-    summary_line(rt, held, store, period + 1, period);
+    response_line(rt, held, period, period, period + 1, period);
+    summary_line(rt, held, period + 1, period);
 }
 
-fn short_rooms(rt: &impl Print, held: &mut Held, store: &Store, plan: Plan)
+fn short_rooms(rt: &impl Print, held: &mut Held, plan: Plan)
     requires { Runs plan }
 {
     let period = plan.period;
-    short_responses(rt, held, store, period);
-    short_summaries(rt, held, store, period);
-    least_rooms(rt, held, store, period);
+    short_responses(rt, held, period);
+    short_summaries(rt, held, period);
+    least_rooms(rt, held, period);
 }
 
 // Calls with one more in sum 0, and then one less in it.
-fn wrong_sums(rt: &impl Print, held: &mut Held, store: &mut Store, plan: Plan)
+fn wrong_sums(rt: &impl Print, held: &mut Held, plan: Plan)
     requires { Runs plan }
 {
     let period = plan.period;
     record(held, plan, REFUSED_VISIT);
     held.sums[0] = held.sums[0].wrapping_add(1);
-    enter_line(rt, held, store, 1, Night::Period, period);
-    withdraw_line(rt, held, store, 1);
-    answers(rt, held, store);
+    enter_line(rt, held, 1, Night::Period, period);
+    withdraw_line(rt, held, 1);
+    answers(rt, held);
     held.sums[0] = held.sums[0].wrapping_sub(1);
 }
 
-fn wrong_orders(rt: &impl Print, held: &mut Held, store: &mut Store, plan: Plan) {
+fn wrong_orders(rt: &impl Print, held: &mut Held, plan: Plan) {
     for order in [LEAST_ORDER - 1, MOST_ORDER + 1] {
-        start_line(rt, held, store, Plan { order, ..plan }, STORE, PLACES);
+        start_line(rt, held, Plan { order, ..plan }, STORE, PLACES);
     }
 }
 
 // Not below 2^N, with tap 0 clear, and of a register that is not maximal.
-fn wrong_taps(rt: &impl Print, held: &mut Held, store: &mut Store, plan: Plan)
+fn wrong_taps(rt: &impl Print, held: &mut Held, plan: Plan)
     requires { Runs plan }
 {
     for taps in [plan.period as u32 + 1, 2, 1] {
-        start_line(rt, held, store, Plan { taps, ..plan }, STORE, PLACES);
+        start_line(rt, held, Plan { taps, ..plan }, STORE, PLACES);
     }
 }
 
-fn wrong_slots(rt: &impl Print, held: &mut Held, store: &mut Store, plan: Plan) {
+fn wrong_slots(rt: &impl Print, held: &mut Held, plan: Plan) {
     for capacity in [0, MOST_SLOTS + 1] {
-        start_line(rt, held, store, Plan { capacity, ..plan }, STORE, PLACES);
+        start_line(rt, held, Plan { capacity, ..plan }, STORE, PLACES);
     }
 }
 
 // The store one short, and the sums.
-fn short_starts(rt: &impl Print, held: &mut Held, store: &mut Store, plan: Plan)
+fn short_starts(rt: &impl Print, held: &mut Held, plan: Plan)
     requires { Runs plan }
 {
     let samples = plan.capacity as usize * plan.period;
-    start_line(rt, held, store, plan, samples - 1, PLACES);
-    start_line(rt, held, store, plan, STORE, plan.period - 1);
+    start_line(rt, held, plan, samples - 1, PLACES);
+    start_line(rt, held, plan, STORE, plan.period - 1);
 }
 
-fn wrong_starts(rt: &impl Print, held: &mut Held, store: &mut Store, plan: Plan)
+fn wrong_starts(rt: &impl Print, held: &mut Held, plan: Plan)
     requires { Runs plan }
 {
-    wrong_orders(rt, held, store, plan);
-    wrong_taps(rt, held, store, plan);
-    wrong_slots(rt, held, store, plan);
-    short_starts(rt, held, store, plan);
+    wrong_orders(rt, held, plan);
+    wrong_taps(rt, held, plan);
+    wrong_slots(rt, held, plan);
+    short_starts(rt, held, plan);
 }
 
 // All of them, in this order.
-pub fn be_refused(rt: &impl Print, held: &mut Held, store: &mut Store, plan: Plan)
+pub fn be_refused(rt: &impl Print, held: &mut Held, plan: Plan)
     requires { Runs plan }
 {
-    wrong_entries(rt, held, store, plan);
-    wrong_withdrawals(rt, held, store);
-    short_rooms(rt, held, store, plan);
-    wrong_sums(rt, held, store, plan);
-    wrong_starts(rt, held, store, plan);
+    wrong_entries(rt, held, plan);
+    wrong_withdrawals(rt, held);
+    short_rooms(rt, held, plan);
+    wrong_sums(rt, held, plan);
+    wrong_starts(rt, held, plan);
     refused_signals(rt, held, plan);
-    memory_line(rt, held, store);
+    memory_line(rt, held);
 }

@@ -2,17 +2,18 @@
 ghost use Rattle.std.specs.Prelude.{◌≤◌};
 ghost use Rattle.year.specs.Lent.{recording, Runs};
 
-use crate::{HIGHEST, Held, Plan, RECORDING};
+use crate::{Held, Plan, RECORDING};
 use lines::answers::number_told;
 use player::Player;
 use player::clock::step_player;
+use samples::HIGHEST_SAMPLE;
 
 fn predict_line(rt: &impl Print, plan: Plan, out: &mut [i32])
     requires { plan.period ≤ recording }
 {
     let mut h: [i32; RECORDING] = [0; RECORDING];
-    h[0] = HIGHEST;
-    h[1] = HIGHEST;
+    h[0] = HIGHEST_SAMPLE;
+    h[1] = HIGHEST_SAMPLE;
     let answer = prediction::predict(plan.order, plan.taps, &h[..plan.period], out);
     let _ = println!(rt; "predict {}", number_told(answer));
 }

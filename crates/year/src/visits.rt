@@ -3,93 +3,92 @@ ghost use Rattle.std.specs.Prelude.{◌≤◌, ◌<◌};
 ghost use Rattle.year.specs.Lent.{visits, Runs};
 
 use crate::calls::{ask, enter_line, start_line, withdraw_line};
-use crate::memory::{fill_store, filled};
+use crate::memory::filled;
 use crate::recordings::{day_of, length_of, night_of, record};
 use crate::refusing::{REFUSED_VISIT, be_refused};
-use crate::{Held, PLACES, Plan, STORE, Store};
+use crate::{Held, PLACES, Plan, STORE};
 use records::filing::blank;
 use rounding::AWAY_FROM_ZERO;
 
 const VISITS: usize = 732;
 
 // The recording of visit i entered, now and then twice.
-fn enter_night(rt: &impl Print, held: &mut Held, store: &mut Store, plan: Plan, i: usize)
+fn enter_night(rt: &impl Print, held: &mut Held, plan: Plan, i: usize)
     requires { (i < visits) × Runs plan }
 {
     let d = day_of(i);
     let night = night_of(i, plan.most);
     let length = length_of(plan, i);
     record(held, plan, i);
-    enter_line(rt, held, store, d, night, length);
+    enter_line(rt, held, d, night, length);
     if i % 13 == 5 {
-        enter_line(rt, held, store, d, night, length);
+        enter_line(rt, held, d, night, length);
     }
 }
 
 // The day of the visit that lies so far back, withdrawn.
-fn withdraw_night(rt: &impl Print, held: &mut Held, store: &mut Store, lag: usize, i: usize)
+fn withdraw_night(rt: &impl Print, held: &mut Held, lag: usize, i: usize)
     requires { i < visits }
 {
     if lag <= i {
-        withdraw_line(rt, held, store, day_of(i - lag));
+        withdraw_line(rt, held, day_of(i - lag));
     }
 }
 
-fn ask_some(rt: &impl Print, held: &mut Held, store: &Store, i: usize) {
+fn ask_some(rt: &impl Print, held: &mut Held, i: usize) {
     if i % 61 == 60 {
-        ask(rt, held, store);
+        ask(rt, held);
     }
 }
 
-fn refuse_some(rt: &impl Print, held: &mut Held, store: &mut Store, plan: Plan, i: usize)
+fn refuse_some(rt: &impl Print, held: &mut Held, plan: Plan, i: usize)
     requires { Runs plan }
 {
     if i == REFUSED_VISIT {
-        be_refused(rt, held, store, plan);
+        be_refused(rt, held, plan);
     }
 }
 
-fn visit(rt: &impl Print, held: &mut Held, store: &mut Store, plan: Plan, i: usize)
+fn visit(rt: &impl Print, held: &mut Held, plan: Plan, i: usize)
     requires { (i < visits) × Runs plan }
 {
-    enter_night(rt, held, store, plan, i);
-    withdraw_night(rt, held, store, plan.lag, i);
-    ask_some(rt, held, store, i);
-    refuse_some(rt, held, store, plan, i);
+    enter_night(rt, held, plan, i);
+    withdraw_night(rt, held, plan.lag, i);
+    ask_some(rt, held, i);
+    refuse_some(rt, held, plan, i);
 }
 
-fn all_visits(rt: &impl Print, held: &mut Held, store: &mut Store, plan: Plan)
+fn all_visits(rt: &impl Print, held: &mut Held, plan: Plan)
     requires { Runs plan }
 {
     for i in 0..VISITS {
-        visit(rt, held, store, plan, i);
+        visit(rt, held, plan, i);
     }
 }
 
 // The days of the last visits, withdrawn.
-fn last_withdrawals(rt: &impl Print, held: &mut Held, store: &mut Store, lag: usize)
+fn last_withdrawals(rt: &impl Print, held: &mut Held, lag: usize)
     requires { lag ≤ visits }
 {
     for i in VISITS - lag..VISITS {
-        withdraw_line(rt, held, store, day_of(i));
+        withdraw_line(rt, held, day_of(i));
     }
 }
 
 // The planned campaign on filled memory, its record begun.
-fn started(rt: &impl Print, plan: Plan, store: &mut Store) -> Held {
-    fill_store(store);
+fn started(rt: &impl Print, plan: Plan) -> Held {
     let mut held = filled(blank(plan.order, plan.taps, plan.capacity, AWAY_FROM_ZERO));
-    start_line(rt, &mut held, store, plan, STORE, PLACES);
+    start_line(rt, &mut held, plan, STORE, PLACES);
     held
 }
 
 // The planned campaign, from its start to its last answer.
-pub fn campaign_lines(rt: &impl Print, plan: Plan, store: &mut Store)
+pub fn campaign_lines(rt: &impl Print, plan: Plan)
     requires { Runs plan }
 {
-    let mut held = started(rt, plan, store);
-    ask(rt, &mut held, store);
-    all_visits(rt, &mut held, store, plan);
-    last_withdrawals(rt, &mut held, store, plan.lag);
-    ask(rt, &mut held, store);
+    let mut held = started(rt, plan);
+    ask(rt, &mut held);
+    all_visits(rt, &mut held, plan);
+    last_withdrawals(rt, &mut held, plan.lag);
+    ask(rt, &mut held);
 }
