@@ -81,37 +81,28 @@ fn rail(i: usize) -> i32 {
     }
 }
 
-fn place_of(i: usize, n: usize) -> usize
-    requires { 0 < n }
-    ensures { result < n }
-{
-    i % n
-}
-
 fn overload(y: &mut [i32], i: usize)
     requires { 0 < length y.old }
 {
-    let place = place_of(i, y.len());
-    let last = y.len() - 1;
-    y[place] = rail(i);
-    y[last] = HIGHEST_SAMPLE;
+    let n = y.len();
+    y[i % n] = rail(i);
+    y[n - 1] = HIGHEST_SAMPLE;
 }
 
 // The smallest and the largest sample of a quiet visit, each at a place.
 fn widen(y: &mut [i32], i: usize)
     requires { (i < visits) × (0 < length y.old) }
 {
-    let low = place_of(i, y.len());
-    let high = place_of(i + 3, y.len());
-    y[low] = up_by(smallest(i));
-    y[high] = up_by(smallest(i) + spread(i));
+    let n = y.len();
+    y[i % n] = up_by(smallest(i));
+    y[(i + 3) % n] = up_by(smallest(i) + spread(i));
 }
 
 // A run-in has a sample at a rail, which is no overload.
 fn mark_run_in(y: &mut [i32], i: usize) {
-    if !y.is_empty() {
-        let place = place_of(i, y.len());
-        y[place] = HIGHEST_SAMPLE;
+    let n = y.len();
+    if 0 < n {
+        y[i % n] = HIGHEST_SAMPLE;
     }
 }
 

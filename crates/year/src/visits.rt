@@ -26,36 +26,20 @@ fn enter_night(rt: &impl Print, held: &mut Held, plan: Plan, i: usize)
     }
 }
 
-// The day of the visit that lies so far back, withdrawn.
-fn withdraw_night(rt: &impl Print, held: &mut Held, lag: usize, i: usize)
-    requires { i < visits }
-{
-    if lag <= i {
-        withdraw_line(rt, held, day_of(i - lag));
-    }
-}
-
-fn ask_some(rt: &impl Print, held: &mut Held, i: usize) {
-    if i % 61 == 60 {
-        ask(rt, held);
-    }
-}
-
-fn refuse_some(rt: &impl Print, held: &mut Held, plan: Plan, i: usize)
-    requires { Runs plan }
-{
-    if i == REFUSED_VISIT {
-        be_refused(rt, held, plan);
-    }
-}
-
+// A visit: its night, the day of the visit that lies so far back withdrawn, and at some visits the answers or every refusal.
 fn visit(rt: &impl Print, held: &mut Held, plan: Plan, i: usize)
     requires { (i < visits) × Runs plan }
 {
     enter_night(rt, held, plan, i);
-    withdraw_night(rt, held, plan.lag, i);
-    ask_some(rt, held, i);
-    refuse_some(rt, held, plan, i);
+    if plan.lag <= i {
+        withdraw_line(rt, held, day_of(i - plan.lag));
+    }
+    if i % 61 == 60 {
+        ask(rt, held);
+    }
+    if i == REFUSED_VISIT {
+        be_refused(rt, held, plan);
+    }
 }
 
 fn all_visits(rt: &impl Print, held: &mut Held, plan: Plan)
