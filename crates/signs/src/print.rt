@@ -3,13 +3,13 @@ use lines::print::word;
 use refusals::Refusal;
 
 // - for -1, + for +1.
-pub fn mark(rt: &impl Print, minus: bool) {
-    word(rt, if minus { "-" } else { "+" });
+pub fn mark(rt: &impl Print, sign: i32) {
+    word(rt, if sign < 0 { "-" } else { "+" });
 }
 
 pub fn marks(rt: &impl Print, signs: &[i8]) {
     for &sign in signs {
-        mark(rt, sign < 0);
+        mark(rt, i32::from(sign));
     }
 }
 

@@ -17,11 +17,12 @@ const NONE: Player = Player {
     count: 0,
 };
 
+// A new player of the order's default taps.
 fn of_default_taps(order: u32) -> Result<Player, Refusal> {
     new_player(order, default_taps(order)?)
 }
 
-// A new player of the order's default taps; where there is none, one that every step refuses.
+// The same, and one that every step refuses where there is none.
 pub fn new(order: u32) -> Player {
     of_default_taps(order).unwrap_or(NONE)
 }
@@ -72,7 +73,7 @@ pub fn blocks_run(rt: &impl Print, player: Player, total: usize) {
 
 fn tick_mark(rt: &impl Print, tick: Result<i32, Refusal>) {
     match tick {
-        Ok(sign) => mark(rt, sign < 0),
+        Ok(sign) => mark(rt, sign),
         Err(refusal) => refused(rt, refusal),
     }
 }
