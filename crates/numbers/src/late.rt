@@ -39,9 +39,8 @@ fn fill_late(y: &[i32], out: &mut [i32], period: usize, d: usize)
     requires { (d < period) × (period ≤ 65535) × (length y.now % period ≡ 0) × (length out.old ≡ length y.now) }
     ensures { out.new ≡ late period d y.now }
 {
-    for j in 0..y.len() {
-        let from = j / period * period + (j % period + d) % period;
-        out[j] = y[from];
+    for (j, x) in out.iter_mut().enumerate() {
+        *x = y[j / period * period + (j % period + d) % period];
     }
 }
 
@@ -125,23 +124,16 @@ fn long_line(rt: &impl Print, taps: u32, d: usize, y: &[i32]) {
     line_end(rt);
 }
 
-// One start of a recording of order 9.
-fn long_start(rt: &impl Print, taps: u32, y: &[i32], d: usize)
-    requires { (length y.now ≡ 511) × (d < 511) }
-{
-    let mut out = [0i32; LONG_PERIOD];
-    fill_late(y, &mut out, LONG_PERIOD, d);
-    long_line(rt, taps, d, &out);
-    night_line(rt, LONG_ORDER, taps, Night::Period, d, &out);
-}
-
 // What a response predicts, at some starts in the period.
 fn long_lines(rt: &impl Print, h: &[i32]) {
     let taps = taps_of(LONG_ORDER);
     let mut y = [0i32; LONG_PERIOD];
+    let mut out = [0i32; LONG_PERIOD];
     let _ = prediction::predict(LONG_ORDER, taps, h, &mut y);
     for d in STARTS {
-        long_start(rt, taps, &y, d);
+        fill_late(&y, &mut out, LONG_PERIOD, d);
+        long_line(rt, taps, d, &out);
+        night_line(rt, LONG_ORDER, taps, Night::Period, d, &out);
     }
 }
 
