@@ -2,7 +2,8 @@
 ghost use Rattle.std.specs.Prelude.{◌≤◌};
 ghost use Rattle.year.specs.Lent.{store_places, places, recording, tag_places, Within};
 
-use crate::{Held, PLACES, Plan, TAGS};
+use crate::plan::Opening;
+use crate::{Held, PLACES, TAGS};
 use campaign::entering::enter;
 use campaign::starting::start;
 use campaign::withdrawing::withdraw;
@@ -18,17 +19,17 @@ use trend::answering::response;
 use trend::counting::counts;
 use trend::summarising::summary;
 
-// The planned campaign started with the front parts of these lengths.
-pub fn start_line(rt: &impl Print, held: &mut Held, plan: Plan, samples: usize, wide: usize)
+// A start with the front parts of these lengths.
+pub fn start_line(rt: &impl Print, held: &mut Held, opening: Opening, samples: usize, wide: usize)
     requires { (samples ≤ store_places) × (wide ≤ places) }
 {
     let store = &mut held.store[..];
     let sums = &mut held.sums[..];
     let started = start(
         held.campaign,
-        plan.order,
-        plan.taps,
-        plan.capacity,
+        opening.order,
+        opening.taps,
+        opening.capacity,
         AWAY_FROM_ZERO,
         &mut store[..samples],
         &mut sums[..wide],

@@ -3,11 +3,13 @@
 
 mod calls;
 mod memory;
+mod plan;
 mod recordings;
 mod refusing;
 mod signals;
 mod visits;
 
+use plan::{Opening, Plan};
 use records::Campaign;
 use visits::campaign_lines;
 
@@ -33,30 +35,23 @@ pub struct Held {
     pub tags: [u16; TAGS],
 }
 
-// A campaign to drive: `lag` is how many visits after its own a day is withdrawn, `most` how many periods its captures have at the most.
-#[derive(Clone, Copy)]
-pub struct Plan {
-    pub order: u32,
-    pub taps: u32,
-    pub capacity: u32,
-    pub period: usize,
-    pub lag: usize,
-    pub most: usize,
-}
-
 fn main(rt: HostRuntime) {
     let small = Plan {
-        order: 3,
-        taps: 3,
-        capacity: 5,
+        opening: Opening {
+            order: 3,
+            taps: 3,
+            capacity: 5,
+        },
         period: 7,
         lag: 6,
         most: 16,
     };
     let large = Plan {
-        order: 9,
-        taps: 17,
-        capacity: 48,
+        opening: Opening {
+            order: 9,
+            taps: 17,
+            capacity: 48,
+        },
         period: 511,
         lag: 60,
         most: 4,

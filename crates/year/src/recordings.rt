@@ -1,9 +1,10 @@
 // The day of a visit, its night and its recording.
 ghost use Rattle.std.specs.Prelude.{ℕ, ◌^◌, ◌≤◌, ◌<◌, length};
 ghost use Rattle.nights.specs.Nights.{periods_of};
-ghost use Rattle.year.specs.Lent.{recording, visits, Runs};
+ghost use Rattle.year.specs.Lent.{recording, visits};
 
-use crate::{Held, Plan};
+use crate::Held;
+use crate::plan::Plan;
 use nights::Night;
 use nights::shape::{night_length, run_in};
 use records::DAYS;
@@ -135,7 +136,6 @@ fn record_night(y: &mut [i32], from: usize, i: usize)
 
 // How many samples visit i has.
 pub fn length_of(plan: Plan, i: usize) -> usize
-    requires { Runs plan }
     ensures { result ≤ recording }
 {
     night_length(night_of(i, plan.most), plan.period)
@@ -143,7 +143,7 @@ pub fn length_of(plan: Plan, i: usize) -> usize
 
 // The recording of visit i, at hand from here on.
 pub fn record(held: &mut Held, plan: Plan, i: usize)
-    requires { (i < visits) × Runs plan }
+    requires { i < visits }
 {
     let period = plan.period;
     let night = night_of(i, plan.most);

@@ -1,12 +1,13 @@
 // A campaign of 732 visits.
 ghost use Rattle.std.specs.Prelude.{◌≤◌, ◌<◌};
-ghost use Rattle.year.specs.Lent.{visits, Runs};
+ghost use Rattle.year.specs.Lent.{visits};
 
 use crate::calls::{ask, enter_line, start_line, withdraw_line};
 use crate::memory::filled;
+use crate::plan::Plan;
 use crate::recordings::{day_of, length_of, night_of, record};
 use crate::refusing::{REFUSED_VISIT, be_refused};
-use crate::{Held, PLACES, Plan, STORE};
+use crate::{Held, PLACES, STORE};
 use records::filing::blank;
 use rounding::AWAY_FROM_ZERO;
 
@@ -14,7 +15,7 @@ const VISITS: usize = 732;
 
 // The recording of visit i entered, now and then twice.
 fn enter_night(rt: &impl Print, held: &mut Held, plan: Plan, i: usize)
-    requires { (i < visits) × Runs plan }
+    requires { i < visits }
 {
     let d = day_of(i);
     let night = night_of(i, plan.most);
@@ -28,7 +29,7 @@ fn enter_night(rt: &impl Print, held: &mut Held, plan: Plan, i: usize)
 
 // A visit: its night, the day of the visit that lies so far back withdrawn, and at some visits the answers or every refusal.
 fn visit(rt: &impl Print, held: &mut Held, plan: Plan, i: usize)
-    requires { (i < visits) × Runs plan }
+    requires { i < visits }
 {
     enter_night(rt, held, plan, i);
     if plan.lag <= i {
@@ -42,9 +43,7 @@ fn visit(rt: &impl Print, held: &mut Held, plan: Plan, i: usize)
     }
 }
 
-fn all_visits(rt: &impl Print, held: &mut Held, plan: Plan)
-    requires { Runs plan }
-{
+fn all_visits(rt: &impl Print, held: &mut Held, plan: Plan) {
     for i in 0..VISITS {
         visit(rt, held, plan, i);
     }
@@ -61,15 +60,19 @@ fn last_withdrawals(rt: &impl Print, held: &mut Held, lag: usize)
 
 // The planned campaign on filled memory, its record begun.
 fn started(rt: &impl Print, plan: Plan) -> Held {
-    let mut held = filled(blank(plan.order, plan.taps, plan.capacity, AWAY_FROM_ZERO));
-    start_line(rt, &mut held, plan, STORE, PLACES);
+    let opening = plan.opening;
+    let mut held = filled(blank(
+        opening.order,
+        opening.taps,
+        opening.capacity,
+        AWAY_FROM_ZERO,
+    ));
+    start_line(rt, &mut held, opening, STORE, PLACES);
     held
 }
 
 // The planned campaign, from its start to its last answer.
-pub fn campaign_lines(rt: &impl Print, plan: Plan)
-    requires { Runs plan }
-{
+pub fn campaign_lines(rt: &impl Print, plan: Plan) {
     let mut held = started(rt, plan);
     ask(rt, &mut held);
     all_visits(rt, &mut held, plan);
