@@ -71,7 +71,7 @@ fn order_lines(
     recovered_line(rt, order, h);
 }
 
-// The same in just as much of what is lent as the order needs.
+// The same in just as much of what is lent as the order needs. Each field is lent whole before it is cut, since the borrow checker covers no cut of two fields at once.
 fn lines_within(rt: &impl Print, order: u32, lent: &mut Lent)
     requires { order ≤ 16 }
 {

@@ -1,4 +1,4 @@
-// Each call with its line.
+// Each call with its line. A field is lent whole before it is cut, since the borrow checker covers no cut of two fields at once.
 ghost use Rattle.std.specs.Prelude.{◌≤◌};
 ghost use Rattle.year.specs.Lent.{store_places, places, recording, tag_places, Within};
 
