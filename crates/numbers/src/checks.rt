@@ -1,10 +1,9 @@
 // The lines of the taps check and of the default taps.
 ghost use Rattle.std.specs.Prelude.{◌≤◌};
 
-use defaults::DefaultTaps;
 use defaults::taps::default_taps;
+use lines::answers::{number_told, period_told};
 use lines::digest::fold;
-use lines::print::{line_end, number, three, word};
 use register::LEAST_ORDER;
 use register::shift::full_period;
 use register::taps::check_taps;
@@ -12,12 +11,11 @@ use register::taps::check_taps;
 // The order and the taps, the answer's number and its period.
 fn taps_line(rt: &impl Print, order: u32, taps: u32) {
     let answer = check_taps(order, taps);
-    word(rt, b"taps");
-    number(rt, order as u64);
-    number(rt, taps as u64);
-    number(rt, answer.number as u64);
-    number(rt, answer.period as u64);
-    line_end(rt);
+    let _ = println!(rt;
+        "taps {order} {taps} {} {}",
+        number_told(answer),
+        period_told(answer)
+    );
 }
 
 // Orders and taps to be checked: orders out of range, taps that are none, and taps with a short register.
@@ -46,13 +44,6 @@ pub fn taps_lines(rt: &impl Print) {
     }
 }
 
-// 1 where the number says accepted.
-fn accepted(number: u32) -> u64
-    ensures { result ≤ 1 }
-{
-    if number == 0 { 1 } else { 0 }
-}
-
 // Of larger orders the steps of all short registers take too long.
 const MOST_TRIED: u32 = 12;
 
@@ -65,10 +56,13 @@ fn all_taps_line(rt: &impl Print, order: u32)
     let mut d = 0;
     for taps in 0..end {
         let answer = check_taps(order, taps);
-        count += accepted(answer.number);
-        d = fold(fold(d, answer.number as i64), answer.period as i64);
+        count += u32::from(answer.is_ok());
+        d = fold(
+            fold(d, i64::from(number_told(answer))),
+            i64::from(period_told(answer)),
+        );
     }
-    three(rt, b"all-taps", order as u64, count, d);
+    let _ = println!(rt; "all-taps {order} {count} {d}");
 }
 
 pub fn all_taps_lines(rt: &impl Print) {
@@ -78,10 +72,10 @@ pub fn all_taps_lines(rt: &impl Print) {
 }
 
 fn default_line(rt: &impl Print, order: u32) {
-    match default_taps(order) {
-        DefaultTaps::Taps(taps) => three(rt, b"default", order as u64, 0, taps as u64),
-        DefaultTaps::Refused(number) => three(rt, b"default", order as u64, number as u64, 0),
-    }
+    let _ = match default_taps(order) {
+        Ok(taps) => println!(rt; "default {order} 0 {taps}"),
+        Err(refusal) => println!(rt; "default {order} {} 0", refusal.number()),
+    };
 }
 
 pub fn default_lines(rt: &impl Print) {

@@ -3,11 +3,13 @@ ghost use Rattle.std.specs.Prelude.{◌≡◌, ◌+◌, ◌*◌, ◌%◌, ◌≤
 ghost use Rattle.sums.specs.Turned.{late};
 
 use crate::large::taps_of;
-use crate::late_nights::{line_start, night_line};
+use crate::late_nights::night_line;
 use crate::signals::fill_pattern;
+use lines::answers::number_told;
 use lines::digest::digest;
-use lines::print::{line_end, number, signed};
+use lines::print::{line_end, number};
 use nights::Night;
+use refusals::Refusal;
 use samples::{HIGHEST_SAMPLE, LOWEST_SAMPLE};
 
 // The short recordings are of order 3, which has these two maximal taps.
@@ -37,23 +39,14 @@ fn fill_late(y: &[i32], out: &mut [i32], period: usize, d: usize)
     requires { (d < period) × (period ≤ 65535) × (length y.now % period ≡ 0) × (length out.old ≡ length y.now) }
     ensures { out.new ≡ late period d y.now }
 {
-    for j in 0..y.len() {
-        let from = j / period * period + (j % period + d) % period;
-        out[j] = y[from];
-    }
-}
-
-fn signed_words(rt: &impl Print, r: &[i64]) {
-    for &v in r {
-        signed(rt, v);
+    for (j, x) in out.iter_mut().enumerate() {
+        *x = y[j / period * period + (j % period + d) % period];
     }
 }
 
 // What one recording that starts d places late answers.
-fn answer_words(rt: &impl Print, order: u32, taps: u32, d: usize, answer: u32) {
-    line_start(rt, b"late", order, taps);
-    number(rt, d as u64);
-    number(rt, answer as u64);
+fn answer_words(rt: &impl Print, order: u32, taps: u32, d: usize, answer: Result<u32, Refusal>) {
+    let _ = print!(rt; "late {order} {taps} {d} {}", number_told(answer));
 }
 
 // A recording of order 3, with the numbers of its response.
@@ -62,8 +55,10 @@ fn short_line(rt: &impl Print, taps: u32, d: usize, y: &[i32]) {
     let mut room = [0i64; SHORT_PERIOD + 1];
     let mut tags = [0u16; SHORT_PERIOD];
     let answer = response::one_recording(SHORT_ORDER, taps, y, &mut r, &mut room, &mut tags);
-    answer_words(rt, SHORT_ORDER, taps, d, answer.number);
-    signed_words(rt, &r);
+    answer_words(rt, SHORT_ORDER, taps, d, answer);
+    for v in r {
+        number(rt, v);
+    }
     line_end(rt);
 }
 
@@ -71,7 +66,7 @@ fn short_line(rt: &impl Print, taps: u32, d: usize, y: &[i32]) {
 fn short_lines(rt: &impl Print, taps: u32, h: &[i32]) {
     let mut y = [0i32; SHORT_PERIOD];
     let mut out = [0i32; SHORT_PERIOD];
-    prediction::predict(SHORT_ORDER, taps, h, &mut y);
+    let _ = prediction::predict(SHORT_ORDER, taps, h, &mut y);
     for d in 0..SHORT_PERIOD {
         fill_late(&y, &mut out, SHORT_PERIOD, d);
         short_line(rt, taps, d, &out);
@@ -95,7 +90,7 @@ fn fill_period(y: &mut [i32], i: usize, h: &[i32])
 {
     let from = i * SHORT_PERIOD;
     let to = from + SHORT_PERIOD;
-    prediction::predict(SHORT_ORDER, FIRST_TAPS, h, &mut y[from..to]);
+    let _ = prediction::predict(SHORT_ORDER, FIRST_TAPS, h, &mut y[from..to]);
 }
 
 // A run-in, and two periods that differ.
@@ -124,28 +119,21 @@ fn long_line(rt: &impl Print, taps: u32, d: usize, y: &[i32]) {
     let mut room = [0i64; LONG_PERIOD + 1];
     let mut tags = [0u16; LONG_PERIOD];
     let answer = response::one_recording(LONG_ORDER, taps, y, &mut r, &mut room, &mut tags);
-    answer_words(rt, LONG_ORDER, taps, d, answer.number);
+    answer_words(rt, LONG_ORDER, taps, d, answer);
     number(rt, digest(&r));
     line_end(rt);
-}
-
-// One start of a recording of order 9.
-fn long_start(rt: &impl Print, taps: u32, y: &[i32], d: usize)
-    requires { (length y.now ≡ 511) × (d < 511) }
-{
-    let mut out = [0i32; LONG_PERIOD];
-    fill_late(y, &mut out, LONG_PERIOD, d);
-    long_line(rt, taps, d, &out);
-    night_line(rt, LONG_ORDER, taps, Night::Period, d, &out);
 }
 
 // What a response predicts, at some starts in the period.
 fn long_lines(rt: &impl Print, h: &[i32]) {
     let taps = taps_of(LONG_ORDER);
     let mut y = [0i32; LONG_PERIOD];
-    prediction::predict(LONG_ORDER, taps, h, &mut y);
+    let mut out = [0i32; LONG_PERIOD];
+    let _ = prediction::predict(LONG_ORDER, taps, h, &mut y);
     for d in STARTS {
-        long_start(rt, taps, &y, d);
+        fill_late(&y, &mut out, LONG_PERIOD, d);
+        long_line(rt, taps, d, &out);
+        night_line(rt, LONG_ORDER, taps, Night::Period, d, &out);
     }
 }
 

@@ -2,7 +2,7 @@
 use campaign::Verdict;
 use campaign::entering::enter;
 use campaign::starting::start;
-use lines::print::{bits, line_end, number, word};
+use lines::print::{bits, line_end, word};
 use nights::Night;
 use nights::shape::periods_of;
 use records::Campaign;
@@ -19,25 +19,15 @@ const DAY: u32 = 1;
 // What is lent is enough for order 9.
 const PLACES: usize = 511;
 
-// The words that begin a line of this name.
-pub fn line_start(rt: &impl Print, name: &[u8], order: u32, taps: u32) {
-    word(rt, name);
-    number(rt, order as u64);
-    number(rt, taps as u64);
-}
-
 fn refused_words(rt: &impl Print, n: u32) {
-    word(rt, b" refused");
-    number(rt, n as u64);
+    let _ = print!(rt; " refused {n}");
 }
 
 fn summary_words(rt: &impl Print, s: Summary) {
     match s {
-        Summary::Nothing => word(rt, b" nothing"),
-        Summary::Measured(levels) => {
-            bits(rt, levels.highest);
-            bits(rt, levels.lowest);
-            bits(rt, levels.peak);
+        Summary::Nothing => word(rt, " nothing"),
+        Summary::Measured(l) => {
+            let _ = print!(rt; " {} {} {}", bits(l.highest), bits(l.lowest), bits(l.peak));
         }
         Summary::Refused(n) => refused_words(rt, n),
     }
@@ -47,7 +37,7 @@ fn summary_words(rt: &impl Print, s: Summary) {
 fn kept_words(rt: &impl Print, c: Campaign, store: &[i32], sums: &[i64]) {
     let mut room = [0i64; PLACES + 1];
     let mut tags = [0u16; PLACES];
-    word(rt, b" kept");
+    word(rt, " kept");
     summary_words(rt, summary(c, store, sums, &mut room, &mut tags));
 }
 
@@ -55,10 +45,9 @@ fn verdict_words(rt: &impl Print, verdict: Verdict, c: Campaign, store: &[i32], 
     match verdict {
         Verdict::Kept(_) => kept_words(rt, c, store, sums),
         Verdict::Overloaded(p) => {
-            word(rt, b" overload");
-            number(rt, p as u64);
+            let _ = print!(rt; " overload {p}");
         }
-        Verdict::Dead => word(rt, b" dead"),
+        Verdict::Dead => word(rt, " dead"),
         Verdict::Refused(n) => refused_words(rt, n),
     }
 }
@@ -66,8 +55,7 @@ fn verdict_words(rt: &impl Print, verdict: Verdict, c: Campaign, store: &[i32], 
 // A new campaign.
 fn started(order: u32, taps: u32, store: &mut [i32], sums: &mut [i64]) -> Campaign {
     let c = blank(order, taps, CAPACITY, AWAY_FROM_ZERO);
-    let done = start(c, order, taps, CAPACITY, AWAY_FROM_ZERO, store, sums);
-    done.campaign
+    start(c, order, taps, CAPACITY, AWAY_FROM_ZERO, store, sums).campaign
 }
 
 // A night whose recording starts d places late: how many of its periods count, and its verdict.
@@ -75,13 +63,8 @@ pub fn night_line(rt: &impl Print, order: u32, taps: u32, night: Night, d: usize
     let mut store = [0i32; PLACES];
     let mut sums = [0i64; PLACES];
     let c = started(order, taps, &mut store, &mut sums);
-    let done = enter(c, &mut store, &mut sums, DAY, night, y);
-    let entry = done.entry;
-    let verdict = entry.verdict;
-    let after = done.campaign;
-    line_start(rt, b"late-night", order, taps);
-    number(rt, periods_of(night) as u64);
-    number(rt, d as u64);
-    verdict_words(rt, verdict, after, &store, &sums);
+    let entered = enter(c, &mut store, &mut sums, DAY, night, y);
+    let _ = print!(rt; "late-night {order} {taps} {} {d}", periods_of(night));
+    verdict_words(rt, entered.entry.verdict, entered.campaign, &store, &sums);
     line_end(rt);
 }

@@ -1,11 +1,11 @@
 // The lines of short recordings, of means, and of a prediction that is refused.
-use lines::print::{line_end, number, signed, word};
-use register::Answer;
+use lines::answers::number_told;
+use refusals::Refusal;
 use rounding::means::write_means;
 use rounding::{AWAY_FROM_ZERO, TO_EVEN};
 
 // What one recording answers at order 3, taps 3, with room enough.
-fn answer(y: &[i32]) -> Answer {
+fn answer(y: &[i32]) -> Result<u32, Refusal> {
     let mut out = [0i64; 7];
     let mut room = [0i64; 8];
     let mut tags = [0u16; 7];
@@ -13,12 +13,7 @@ fn answer(y: &[i32]) -> Answer {
 }
 
 fn recording_line(rt: &impl Print, y: &[i32]) {
-    word(rt, b"recording");
-    number(rt, 3);
-    number(rt, 3);
-    number(rt, y.len() as u64);
-    number(rt, answer(y).number as u64);
-    line_end(rt);
+    let _ = println!(rt; "recording 3 3 {} {}", y.len(), number_told(answer(y)));
 }
 
 pub fn recording_lines(rt: &impl Print) {
@@ -27,27 +22,11 @@ pub fn recording_lines(rt: &impl Print) {
     recording_line(rt, &[0i32; 8]);
 }
 
-fn sample_line(rt: &impl Print, v: i32) {
-    let y = [v, 0, 0, 0, 0, 0, 0];
-    word(rt, b"sample");
-    signed(rt, v as i64);
-    number(rt, answer(&y).number as u64);
-    line_end(rt);
-}
-
 pub fn sample_lines(rt: &impl Print) {
     for v in [8388606, 8388607, 8388608, -8388608, -8388609] {
-        sample_line(rt, v);
+        let y = [v, 0, 0, 0, 0, 0, 0];
+        let _ = println!(rt; "sample {v} {}", number_told(answer(&y)));
     }
-}
-
-fn mean_line(rt: &impl Print, edition: u32, r: i64, d: u64, mean: i64) {
-    word(rt, b"mean");
-    number(rt, edition as u64);
-    signed(rt, r);
-    number(rt, d);
-    signed(rt, mean);
-    line_end(rt);
 }
 
 // The means over 8 in an edition, by the call that works out a response's means.
@@ -55,8 +34,8 @@ fn edition_means(rt: &impl Print, edition: u32) {
     let r = [4i64, -4, -10, 12, -12, 3, -3, 0];
     let mut means = [0i32; 8];
     write_means(edition, &r, &mut means, 8, 8);
-    for (&n, &mean) in r.iter().zip(&means) {
-        mean_line(rt, edition, n, 8, i64::from(mean));
+    for (n, mean) in r.iter().zip(&means) {
+        let _ = println!(rt; "mean {edition} {n} 8 {mean}");
     }
 }
 
@@ -68,7 +47,6 @@ pub fn mean_lines(rt: &impl Print) {
 pub fn refused_line(rt: &impl Print) {
     let h = [8388607, 8388607, 0, 0, 0, 0, 0];
     let mut y = [0i32; 7];
-    word(rt, b"predict-refused");
-    number(rt, prediction::predict(3, 3, &h, &mut y).number as u64);
-    line_end(rt);
+    let answer = prediction::predict(3, 3, &h, &mut y);
+    let _ = println!(rt; "predict-refused {}", number_told(answer));
 }

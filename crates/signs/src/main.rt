@@ -8,20 +8,8 @@ mod runs;
 use player::Player;
 use runs::{blocks_run, clocks_run, new};
 
-// The order, the taps and the window of players that are refused.
+// The order, the taps and the window of players that are refused: they give nothing, and stay as they were.
 const REFUSED: [(u32, u32, u32); 5] = [(1, 1, 1), (3, 8, 7), (3, 2, 7), (3, 3, 0), (3, 3, 8)];
-
-// A player that is refused gives nothing, and stays as it was.
-fn refused_runs(rt: &impl Print, order: u32, taps: u32, window: u32) {
-    let player = Player {
-        order,
-        taps,
-        window,
-        count: 5,
-    };
-    blocks_run(rt, player, 1);
-    clocks_run(rt, player, 1);
-}
 
 fn main(rt: HostRuntime) {
     blocks_run(&rt, new(2), 9);
@@ -38,6 +26,13 @@ fn main(rt: HostRuntime) {
     blocks_run(&rt, late, 17);
     clocks_run(&rt, late, 17);
     for (order, taps, window) in REFUSED {
-        refused_runs(&rt, order, taps, window);
+        let player = Player {
+            order,
+            taps,
+            window,
+            count: 5,
+        };
+        blocks_run(&rt, player, 1);
+        clocks_run(&rt, player, 1);
     }
 }

@@ -1,22 +1,18 @@
 // Signs and refusals on standard output.
-use lines::print::{number, word};
+use lines::print::word;
+use refusals::Refusal;
 
 // - for -1, + for +1.
-pub fn mark(rt: &impl Print, minus: bool) {
-    if minus {
-        word(rt, b"-");
-    } else {
-        word(rt, b"+");
-    }
+pub fn mark(rt: &impl Print, sign: i32) {
+    word(rt, if sign < 0 { "-" } else { "+" });
 }
 
 pub fn marks(rt: &impl Print, signs: &[i8]) {
     for &sign in signs {
-        mark(rt, sign < 0);
+        mark(rt, i32::from(sign));
     }
 }
 
-pub fn refusal(rt: &impl Print, answer: u32) {
-    word(rt, b"refused");
-    number(rt, answer as u64);
+pub fn refused(rt: &impl Print, refusal: Refusal) {
+    let _ = print!(rt; "refused {}", refusal.number());
 }

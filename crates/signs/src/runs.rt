@@ -2,53 +2,48 @@
 ghost use Rattle.std.specs.Prelude.{◌≤◌};
 
 use crate::held::{clocked, filled};
-use crate::print::{mark, marks, refusal};
-use defaults::DefaultTaps;
+use crate::print::{mark, marks, refused};
 use defaults::taps::default_taps;
-use lines::print::{line_end, number, word};
+use lines::print::line_end;
+use player::Player;
 use player::clock::new_player;
-use player::{NewPlayer, Player, Tick};
+use refusals::Refusal;
 
-// A new player of the order's default taps; where there is none, one that every step refuses.
-pub fn new(order: u32) -> Player {
-    let none = Player {
-        order: 0,
-        taps: 0,
-        window: 0,
-        count: 0,
-    };
-    let DefaultTaps::Taps(taps) = default_taps(order) else {
-        return none;
-    };
-    let NewPlayer::Ready(player) = new_player(order, taps) else {
-        return none;
-    };
-    player
+// A player that every step refuses.
+const NONE: Player = Player {
+    order: 0,
+    taps: 0,
+    window: 0,
+    count: 0,
+};
+
+// A new player of the order's default taps.
+fn of_default_taps(order: u32) -> Result<Player, Refusal> {
+    new_player(order, default_taps(order)?)
 }
 
-fn head(rt: &impl Print, name: &[u8], player: Player) {
-    word(rt, name);
-    number(rt, player.order as u64);
-    number(rt, player.taps as u64);
-    number(rt, player.window as u64);
-    number(rt, player.count as u64);
-    line_end(rt);
+// The same, and one that every step refuses where there is none.
+pub fn new(order: u32) -> Player {
+    of_default_taps(order).unwrap_or(NONE)
+}
+
+fn head(rt: &impl Print, name: &str, player: Player) {
+    let _ = println!(rt;
+        "{name} {} {} {} {}",
+        player.order, player.taps, player.window, player.count
+    );
 }
 
 fn end(rt: &impl Print, player: Player) {
-    word(rt, b"end");
-    number(rt, player.window as u64);
-    number(rt, player.count as u64);
-    line_end(rt);
+    let _ = println!(rt; "end {} {}", player.window, player.count);
 }
 
 // The next block on a line: the player after it.
 fn block_line(rt: &impl Print, player: Player, signs: &mut [i8]) -> Player {
     let played = filled(player, signs);
-    if played.answer == 0 {
-        marks(rt, signs);
-    } else {
-        refusal(rt, played.answer);
+    match played.answer {
+        Ok(()) => marks(rt, signs),
+        Err(refusal) => refused(rt, refusal),
     }
     line_end(rt);
     played.player
@@ -63,7 +58,7 @@ fn block_of(rt: &impl Print, player: Player, n: usize) -> Player
 
 // A line to each block, each block one longer than the one before it.
 pub fn blocks_run(rt: &impl Print, player: Player, total: usize) {
-    head(rt, b"blocks", player);
+    head(rt, "blocks", player);
     let mut next = player;
     let mut length = 1;
     let mut left = total;
@@ -76,21 +71,20 @@ pub fn blocks_run(rt: &impl Print, player: Player, total: usize) {
     end(rt, next);
 }
 
-fn tick_mark(rt: &impl Print, tick: Tick) {
+fn tick_mark(rt: &impl Print, tick: Result<i32, Refusal>) {
     match tick {
-        Tick::Sign(sign) => mark(rt, sign < 0),
-        Tick::Refused(answer) => refusal(rt, answer),
+        Ok(sign) => mark(rt, sign),
+        Err(refusal) => refused(rt, refusal),
     }
 }
 
 // The same, one clock at a time, on one line.
 pub fn clocks_run(rt: &impl Print, player: Player, total: usize) {
-    head(rt, b"clocks", player);
+    head(rt, "clocks", player);
     let mut next = player;
     for _ in 0..total {
         let stepped = clocked(next);
-        let tick = stepped.tick;
-        tick_mark(rt, tick);
+        tick_mark(rt, stepped.tick);
         next = stepped.player;
     }
     line_end(rt);

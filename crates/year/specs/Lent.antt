@@ -1,7 +1,6 @@
 -- docs/YEAR.md, "Memory" and "Two campaigns": how much the calls are lent, and what a plan has to keep to for that to be enough.
 -- Assumes nothing.
 use Rattle.std.specs.Prelude.{ℕ, ◌+◌, ◌*◌, ◌≤◌, ◌<◌}
-use Rattle.year.specs.declared.Plan.{Plan}
 
 abbrev pub store_places : ℕ
 store_places = 24600
@@ -28,12 +27,12 @@ pub record Within (values means wide tagged : ℕ) : Type 0 where
 
 -- ---- a plan whose recordings, store and visits fit
 
-pub record Runs (plan : Plan) : Type 0 where
-  pub shortest : 2 ≤ plan.period
-  pub longest : plan.period < places
-  pub some-periods : 1 ≤ plan.most
-  pub few_periods : plan.most ≤ 16
-  pub captures_fit : (1 + plan.most) * plan.period ≤ recording
-  pub some_slots : 0 < plan.capacity
-  pub store_holds : plan.capacity * plan.period ≤ store_places
-  pub lag_within : plan.lag ≤ visits
+pub record Runs (capacity period lag most : ℕ) : Type 0 where
+  pub shortest : 2 ≤ period
+  pub longest : period < places
+  pub some-periods : 1 ≤ most
+  pub few_periods : most ≤ 16
+  pub captures_fit : (1 + most) * period ≤ recording
+  pub some_slots : 0 < capacity
+  pub store_holds : capacity * period ≤ store_places
+  pub lag_within : lag ≤ visits

@@ -1,154 +1,109 @@
-// Each call with its line.
-ghost use Rattle.std.specs.Prelude.{◌≤◌, length};
-ghost use Rattle.year.specs.Lent.{places, recording, tag_places, Within};
+// Each call with its line. A field is lent whole before it is cut, since the borrow checker covers no cut of two fields at once.
+ghost use Rattle.std.specs.Prelude.{◌≤◌};
+ghost use Rattle.year.specs.Lent.{store_places, places, recording, tag_places, Within};
 
-use crate::{Held, PLACES, Store, TAGS};
+use crate::plan::Opening;
+use crate::{Held, PLACES, TAGS};
 use campaign::entering::enter;
 use campaign::starting::start;
 use campaign::withdrawing::withdraw;
 use campaign::{Entry, Verdict};
+use lines::answers::number_told;
 use lines::digest::digest;
-use lines::print::{bits, line_end, number, word};
+use lines::print::{bits, line_end};
 use nights::Night;
+use refusals::Refusal;
 use rounding::AWAY_FROM_ZERO;
+use trend::Summary;
 use trend::answering::response;
 use trend::counting::counts;
 use trend::summarising::summary;
-use trend::{Counts, Summary};
-
-fn start_words(rt: &impl Print, answer: u32) {
-    word(rt, b"start");
-    number(rt, answer as u64);
-    line_end(rt);
-}
 
 // A start with the front parts of these lengths.
-pub fn start_line(
-    rt: &impl Print,
-    held: &mut Held,
-    store: &mut [i32],
-    order: u32,
-    taps: u32,
-    capacity: u32,
-    samples: usize,
-    wide: usize,
-)
-    requires { (samples ≤ length store.old) × (wide ≤ places) }
+pub fn start_line(rt: &impl Print, held: &mut Held, opening: Opening, samples: usize, wide: usize)
+    requires { (samples ≤ store_places) × (wide ≤ places) }
 {
-    let c = held.campaign;
-    let done = start(
-        c,
-        order,
-        taps,
-        capacity,
+    let store = &mut held.store[..];
+    let sums = &mut held.sums[..];
+    let started = start(
+        held.campaign,
+        opening.order,
+        opening.taps,
+        opening.capacity,
         AWAY_FROM_ZERO,
         &mut store[..samples],
-        &mut held.sums[..wide],
+        &mut sums[..wide],
     );
-    let answer = done.answer;
-    start_words(rt, answer.number);
-    held.campaign = done.campaign;
+    held.campaign = started.campaign;
+    let _ = println!(rt; "start {}", number_told(started.answer));
 }
 
 fn verdict_words(rt: &impl Print, verdict: Verdict) {
-    match verdict {
-        Verdict::Kept(s) => {
-            word(rt, b" 0 kept");
-            number(rt, s as u64);
-        }
-        Verdict::Overloaded(p) => {
-            word(rt, b" 0 overload");
-            number(rt, p as u64);
-        }
-        Verdict::Dead => word(rt, b" 0 dead 0"),
-        Verdict::Refused(n) => {
-            number(rt, n as u64);
-            word(rt, b" - 0");
-        }
-    }
+    let _ = match verdict {
+        Verdict::Kept(s) => print!(rt; " 0 kept {s}"),
+        Verdict::Overloaded(p) => print!(rt; " 0 overload {p}"),
+        Verdict::Dead => print!(rt; " 0 dead 0"),
+        Verdict::Refused(n) => print!(rt; " {n} - 0"),
+    };
 }
 
 fn night_words(rt: &impl Print, night: Night, day: u32) {
-    match night {
-        Night::Period => {
-            word(rt, b"enter");
-            number(rt, day as u64);
-        }
-        Night::Capture(m) => {
-            word(rt, b"capture");
-            number(rt, day as u64);
-            number(rt, m as u64);
-        }
-    }
+    let _ = match night {
+        Night::Period => print!(rt; "enter {day}"),
+        Night::Capture(m) => print!(rt; "capture {day} {m}"),
+    };
 }
 
 fn entry_words(rt: &impl Print, night: Night, entry: Entry) {
-    let verdict = entry.verdict;
     night_words(rt, night, entry.day);
-    verdict_words(rt, verdict);
+    verdict_words(rt, entry.verdict);
     line_end(rt);
 }
 
 // The first samples of the recording at hand, entered as this night.
-pub fn enter_line(
-    rt: &impl Print,
-    held: &mut Held,
-    store: &mut Store,
-    d: u32,
-    night: Night,
-    samples: usize,
-)
+pub fn enter_line(rt: &impl Print, held: &mut Held, d: u32, night: Night, samples: usize)
     requires { samples ≤ recording }
 {
-    let c = held.campaign;
-    let done = enter(c, store, &mut held.sums, d, night, &held.y[..samples]);
-    let entry = done.entry;
-    entry_words(rt, night, entry);
-    held.campaign = done.campaign;
+    let entered = enter(
+        held.campaign,
+        &mut held.store,
+        &mut held.sums,
+        d,
+        night,
+        &held.y[..samples],
+    );
+    held.campaign = entered.campaign;
+    entry_words(rt, night, entered.entry);
 }
 
-pub fn withdraw_line(rt: &impl Print, held: &mut Held, store: &mut Store, d: u32) {
-    let c = held.campaign;
-    let done = withdraw(c, store, &mut held.sums, d);
-    word(rt, b"withdraw");
-    number(rt, d as u64);
-    number(rt, done.answer as u64);
-    line_end(rt);
-    held.campaign = done.campaign;
+pub fn withdraw_line(rt: &impl Print, held: &mut Held, d: u32) {
+    let withdrawn = withdraw(held.campaign, &mut held.store, &mut held.sums, d);
+    held.campaign = withdrawn.campaign;
+    let _ = println!(rt; "withdraw {d} {}", number_told(withdrawn.answer));
 }
 
-fn counts_line(rt: &impl Print, held: &Held, store: &Store) {
-    let c = held.campaign;
-    word(rt, b"counts");
-    match counts(c, store, &held.sums) {
-        Counts::Counted(t) => {
-            number(rt, 0);
-            number(rt, t.unseen as u64);
-            number(rt, t.standing as u64);
-            number(rt, t.overloaded as u64);
-            number(rt, t.dead as u64);
-            number(rt, t.withdrawn as u64);
-        }
-        Counts::Refused(n) => {
-            number(rt, n as u64);
-            word(rt, b" 0 0 0 0 0");
-        }
-    }
-    line_end(rt);
+fn counts_line(rt: &impl Print, held: &Held) {
+    let _ = match counts(held.campaign, &held.store, &held.sums) {
+        Ok(t) => println!(rt;
+            "counts 0 {} {} {} {} {}",
+            t.unseen, t.standing, t.overloaded, t.dead, t.withdrawn
+        ),
+        Err(refusal) => println!(rt; "counts {} 0 0 0 0 0", refusal.number()),
+    };
 }
 
 // The digests that end the line of a response or a summary.
 fn rooms(rt: &impl Print, held: &Held) {
-    number(rt, digest(&held.room));
-    number(rt, digest(&held.tags));
-    line_end(rt);
+    let _ = println!(rt; " {} {}", digest(&held.room), digest(&held.tags));
 }
 
-fn response_words(rt: &impl Print, answer: u32, held: &Held) {
-    word(rt, b"response");
-    number(rt, answer as u64);
-    number(rt, digest(&held.r));
-    number(rt, digest(&held.mean));
+fn response_words(rt: &impl Print, answer: Result<(), Refusal>, held: &Held) {
+    let _ = print!(rt;
+        "response {} {} {}",
+        number_told(answer),
+        digest(&held.r),
+        digest(&held.mean)
+    );
     rooms(rt, held);
 }
 
@@ -156,7 +111,6 @@ fn response_words(rt: &impl Print, answer: u32, held: &Held) {
 pub fn response_line(
     rt: &impl Print,
     held: &mut Held,
-    store: &Store,
     values: usize,
     means: usize,
     wide: usize,
@@ -164,14 +118,13 @@ pub fn response_line(
 )
     requires { Within values means wide tagged }
 {
-    let c = held.campaign;
     let r = &mut held.r[..];
     let mean = &mut held.mean[..];
     let room = &mut held.room[..];
     let tags = &mut held.tags[..];
     let answer = response(
-        c,
-        store,
+        held.campaign,
+        &held.store,
         &held.sums,
         &mut r[..values],
         &mut mean[..means],
@@ -182,49 +135,47 @@ pub fn response_line(
 }
 
 fn summary_words(rt: &impl Print, s: Summary) {
-    word(rt, b"summary");
-    match s {
-        Summary::Nothing => word(rt, b" nothing"),
-        Summary::Measured(levels) => {
-            number(rt, 0);
-            bits(rt, levels.highest);
-            bits(rt, levels.lowest);
-            bits(rt, levels.peak);
-        }
-        Summary::Refused(n) => {
-            number(rt, n as u64);
-            word(rt, b" 0 0 0");
-        }
-    }
+    let _ = match s {
+        Summary::Nothing => print!(rt; "summary nothing"),
+        Summary::Measured(l) => print!(rt;
+            "summary 0 {} {} {}",
+            bits(l.highest),
+            bits(l.lowest),
+            bits(l.peak)
+        ),
+        Summary::Refused(n) => print!(rt; "summary {n} 0 0 0"),
+    };
 }
 
 // A summary with the front parts of these lengths.
-pub fn summary_line(rt: &impl Print, held: &mut Held, store: &Store, wide: usize, tagged: usize)
+pub fn summary_line(rt: &impl Print, held: &mut Held, wide: usize, tagged: usize)
     requires { (wide ≤ places) × (tagged ≤ tag_places) }
 {
-    let c = held.campaign;
     let room = &mut held.room[..];
     let tags = &mut held.tags[..];
-    let told = summary(c, store, &held.sums, &mut room[..wide], &mut tags[..tagged]);
-    summary_words(rt, told);
+    let found = summary(
+        held.campaign,
+        &held.store,
+        &held.sums,
+        &mut room[..wide],
+        &mut tags[..tagged],
+    );
+    summary_words(rt, found);
     rooms(rt, held);
 }
 
-pub fn memory_line(rt: &impl Print, held: &Held, store: &Store) {
-    word(rt, b"memory");
-    number(rt, digest(store));
-    number(rt, digest(&held.sums));
-    line_end(rt);
+pub fn memory_line(rt: &impl Print, held: &Held) {
+    let _ = println!(rt; "memory {} {}", digest(&held.store), digest(&held.sums));
 }
 
 // Counts, a response and a summary, with all the room there is.
-pub fn answers(rt: &impl Print, held: &mut Held, store: &Store) {
-    counts_line(rt, held, store);
-    response_line(rt, held, store, PLACES, PLACES, PLACES, TAGS);
-    summary_line(rt, held, store, PLACES, TAGS);
+pub fn answers(rt: &impl Print, held: &mut Held) {
+    counts_line(rt, held);
+    response_line(rt, held, PLACES, PLACES, PLACES, TAGS);
+    summary_line(rt, held, PLACES, TAGS);
 }
 
-pub fn ask(rt: &impl Print, held: &mut Held, store: &Store) {
-    answers(rt, held, store);
-    memory_line(rt, held, store);
+pub fn ask(rt: &impl Print, held: &mut Held) {
+    answers(rt, held);
+    memory_line(rt, held);
 }

@@ -3,11 +3,13 @@
 
 mod calls;
 mod memory;
+mod plan;
 mod recordings;
 mod refusing;
 mod signals;
 mod visits;
 
+use plan::{Opening, Plan};
 use records::Campaign;
 use visits::campaign_lines;
 
@@ -20,18 +22,11 @@ pub const TAGS: usize = 1100;
 
 pub const RECORDING: usize = 2600;
 
-// The rails, the least and the greatest sample.
-pub const LOWEST: i32 = -8388608;
-
-pub const HIGHEST: i32 = 8388607;
-
-// The samples that a campaign's slots hold.
-pub type Store = [i32; STORE];
-
-// A campaign's record with all else that its calls are lent: the sums, the recording at hand, and the rooms for an answer.
+// A campaign's record with all else that its calls are lent: the store, the sums, the recording at hand, and the rooms for an answer.
 #[derive(Drop)]
 pub struct Held {
     pub campaign: Campaign,
+    pub store: [i32; STORE],
     pub sums: [i64; PLACES],
     pub y: [i32; RECORDING],
     pub r: [i64; PLACES],
@@ -40,35 +35,27 @@ pub struct Held {
     pub tags: [u16; TAGS],
 }
 
-// A campaign to drive: `lag` is how many visits after its own a day is withdrawn, `most` how many periods its captures have at the most.
-#[derive(Clone, Copy)]
-pub struct Plan {
-    pub order: u32,
-    pub taps: u32,
-    pub capacity: u32,
-    pub period: usize,
-    pub lag: usize,
-    pub most: usize,
-}
-
 fn main(rt: HostRuntime) {
-    let mut store: Store = [0; STORE];
     let small = Plan {
-        order: 3,
-        taps: 3,
-        capacity: 5,
+        opening: Opening {
+            order: 3,
+            taps: 3,
+            capacity: 5,
+        },
         period: 7,
         lag: 6,
         most: 16,
     };
     let large = Plan {
-        order: 9,
-        taps: 17,
-        capacity: 48,
+        opening: Opening {
+            order: 9,
+            taps: 17,
+            capacity: 48,
+        },
         period: 511,
         lag: 60,
         most: 4,
     };
-    campaign_lines(&rt, small, &mut store);
-    campaign_lines(&rt, large, &mut store);
+    campaign_lines(&rt, small);
+    campaign_lines(&rt, large);
 }

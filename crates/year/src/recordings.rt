@@ -1,12 +1,14 @@
 // The day of a visit, its night and its recording.
 ghost use Rattle.std.specs.Prelude.{ℕ, ◌^◌, ◌≤◌, ◌<◌, length};
 ghost use Rattle.nights.specs.Nights.{periods_of};
-ghost use Rattle.year.specs.Lent.{recording, visits, Runs};
+ghost use Rattle.year.specs.Lent.{recording, visits};
 
-use crate::{HIGHEST, Held, LOWEST, Plan};
+use crate::Held;
+use crate::plan::Plan;
 use nights::Night;
 use nights::shape::{night_length, run_in};
 use records::DAYS;
+use samples::{HIGHEST_SAMPLE, LOWEST_SAMPLE};
 
 pub fn day_of(i: usize) -> u32
     requires { i < visits }
@@ -19,18 +21,17 @@ pub fn night_of(i: usize, most: usize) -> Night
     requires { (1 ≤ most) × (most ≤ 16) }
     ensures { (1 ≤ periods_of result) × (periods_of result ≤ most) }
 {
-    let kind = i % 5;
-    if kind == 2 || kind == 4 {
-        return Night::Capture((i / 5 % most + 1) as u32);
+    match i % 5 {
+        2 | 4 => Night::Capture((i / 5 % most + 1) as u32),
+        _ => Night::Period,
     }
-    Night::Period
 }
 
-// The sample that lies so far above the smallest one between the rails, -HIGHEST.
+// The sample that lies so far above the smallest one between the rails, -HIGHEST_SAMPLE.
 fn up_by(n: usize) -> i32
     requires { n < 2 ^ 25 }
 {
-    n as i32 - HIGHEST
+    n as i32 - HIGHEST_SAMPLE
 }
 
 // A sample strictly between the rails.
@@ -51,13 +52,11 @@ fn spread(i: usize) -> usize
 fn smallest(i: usize) -> usize
     ensures { result < 2 ^ 24 }
 {
-    if i % 3 == 0 {
-        return 0;
+    match i % 3 {
+        0 => 0,
+        1 => 16777213 - spread(i),
+        _ => 8388507 + i % 200,
     }
-    if i % 3 == 1 {
-        return 16777213 - spread(i);
-    }
-    8388507 + i % 200
 }
 
 fn quiet(i: usize, j: usize) -> i32
@@ -76,49 +75,35 @@ fn write<F: Fn(usize) -> i32>(y: &mut [i32], sample: F)
 }
 
 fn rail(i: usize) -> i32 {
-    if i % 2 == 0 { LOWEST } else { HIGHEST }
-}
-
-fn place_of(i: usize, n: usize) -> usize
-    requires { 0 < n }
-    ensures { result < n }
-{
-    i % n
+    if i % 2 == 0 {
+        LOWEST_SAMPLE
+    } else {
+        HIGHEST_SAMPLE
+    }
 }
 
 fn overload(y: &mut [i32], i: usize)
     requires { 0 < length y.old }
 {
-    let place = place_of(i, y.len());
-    let last = y.len() - 1;
-    y[place] = rail(i);
-    y[last] = HIGHEST;
+    let n = y.len();
+    y[i % n] = rail(i);
+    y[n - 1] = HIGHEST_SAMPLE;
 }
 
 // The smallest and the largest sample of a quiet visit, each at a place.
 fn widen(y: &mut [i32], i: usize)
     requires { (i < visits) × (0 < length y.old) }
 {
-    let low = place_of(i, y.len());
-    let high = place_of(i + 3, y.len());
-    y[low] = up_by(smallest(i));
-    y[high] = up_by(smallest(i) + spread(i));
+    let n = y.len();
+    y[i % n] = up_by(smallest(i));
+    y[(i + 3) % n] = up_by(smallest(i) + spread(i));
 }
 
 // A run-in has a sample at a rail, which is no overload.
 fn mark_run_in(y: &mut [i32], i: usize) {
-    if y.len() == 0 {
-        return;
-    }
-    let place = place_of(i, y.len());
-    y[place] = HIGHEST;
-}
-
-fn overload_some(y: &mut [i32], i: usize)
-    requires { 0 < length y.old }
-{
-    if i % 11 == 3 {
-        overload(y, i);
+    let n = y.len();
+    if 0 < n {
+        y[i % n] = HIGHEST_SAMPLE;
     }
 }
 
@@ -129,20 +114,15 @@ fn quieten(y: &mut [i32], i: usize)
     widen(y, i);
 }
 
-fn quieten_some(y: &mut [i32], i: usize)
-    requires { (i < visits) × (0 < length y.old) × (length y.old ≤ recording) }
-{
-    if i % 11 == 7 {
-        quieten(y, i);
-    }
-}
-
 // What is judged of visit i: as a rule kept, now and then overloaded, dead or nearly dead.
 fn disturb(y: &mut [i32], i: usize)
     requires { (i < visits) × (0 < length y.old) × (length y.old ≤ recording) }
 {
-    overload_some(y, i);
-    quieten_some(y, i);
+    match i % 11 {
+        3 => overload(y, i),
+        7 => quieten(y, i),
+        _ => (),
+    }
 }
 
 // The recording of visit i behind a run-in of so many samples.
@@ -156,16 +136,14 @@ fn record_night(y: &mut [i32], from: usize, i: usize)
 
 // How many samples visit i has.
 pub fn length_of(plan: Plan, i: usize) -> usize
-    requires { Runs plan }
     ensures { result ≤ recording }
 {
-    let period = plan.period;
-    night_length(night_of(i, plan.most), period)
+    night_length(night_of(i, plan.most), plan.period)
 }
 
 // The recording of visit i, at hand from here on.
 pub fn record(held: &mut Held, plan: Plan, i: usize)
-    requires { (i < visits) × Runs plan }
+    requires { i < visits }
 {
     let period = plan.period;
     let night = night_of(i, plan.most);

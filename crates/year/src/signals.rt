@@ -1,50 +1,38 @@
 // A prediction that is too loud, and players that cannot step.
-ghost use Rattle.std.specs.Prelude.{◌≤◌};
-ghost use Rattle.year.specs.Lent.{recording, Runs};
 
-use crate::{HIGHEST, Held, Plan, RECORDING};
-use lines::print::{line_end, number, word};
+use crate::plan::Plan;
+use crate::{Held, RECORDING};
+use lines::answers::number_told;
+use player::Player;
 use player::clock::step_player;
-use player::{Player, Tick};
+use samples::HIGHEST_SAMPLE;
 
-fn answer_line(rt: &impl Print, name: &[u8], answer: u32) {
-    word(rt, name);
-    number(rt, answer as u64);
-    line_end(rt);
-}
-
-fn predict_line(rt: &impl Print, order: u32, taps: u32, period: usize, out: &mut [i32])
-    requires { period ≤ recording }
-{
+fn predict_line(rt: &impl Print, plan: Plan, out: &mut [i32]) {
     let mut h: [i32; RECORDING] = [0; RECORDING];
-    h[0] = HIGHEST;
-    h[1] = HIGHEST;
-    let answer = prediction::predict(order, taps, &h[..period], out);
-    answer_line(rt, b"predict", answer.number);
+    h[0] = HIGHEST_SAMPLE;
+    h[1] = HIGHEST_SAMPLE;
+    let answer = prediction::predict(
+        plan.opening.order,
+        plan.opening.taps,
+        &h[..plan.period],
+        out,
+    );
+    let _ = println!(rt; "predict {}", number_told(answer));
 }
 
-fn step_line(rt: &impl Print, order: u32, taps: u32, window: u32) {
+fn step_line(rt: &impl Print, plan: Plan, window: u32) {
     let stepped = step_player(Player {
-        order,
-        taps,
+        order: plan.opening.order,
+        taps: plan.opening.taps,
         window,
         count: 0,
     });
-    let tick = stepped.tick;
-    match tick {
-        Tick::Sign(_) => answer_line(rt, b"step", 0),
-        Tick::Refused(n) => answer_line(rt, b"step", n),
-    }
+    let _ = println!(rt; "step {}", number_told(stepped.tick));
 }
 
 // A prediction and two players of the plan's order and taps, all refused.
-pub fn refused_signals(rt: &impl Print, held: &mut Held, plan: Plan)
-    requires { Runs plan }
-{
-    let order = plan.order;
-    let taps = plan.taps;
-    let period = plan.period;
-    predict_line(rt, order, taps, period, &mut held.y);
-    step_line(rt, order, taps, 0);
-    step_line(rt, order, taps, period as u32 + 1);
+pub fn refused_signals(rt: &impl Print, held: &mut Held, plan: Plan) {
+    predict_line(rt, plan, &mut held.y);
+    step_line(rt, plan, 0);
+    step_line(rt, plan, plan.period as u32 + 1);
 }

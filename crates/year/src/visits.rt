@@ -1,98 +1,81 @@
 // A campaign of 732 visits.
 ghost use Rattle.std.specs.Prelude.{◌≤◌, ◌<◌};
-ghost use Rattle.year.specs.Lent.{visits, Runs};
+ghost use Rattle.year.specs.Lent.{visits};
 
 use crate::calls::{ask, enter_line, start_line, withdraw_line};
-use crate::memory::{fill_store, filled};
+use crate::memory::filled;
+use crate::plan::Plan;
 use crate::recordings::{day_of, length_of, night_of, record};
 use crate::refusing::{REFUSED_VISIT, be_refused};
-use crate::{Held, PLACES, Plan, STORE, Store};
+use crate::{Held, PLACES, STORE};
 use records::filing::blank;
 use rounding::AWAY_FROM_ZERO;
 
 const VISITS: usize = 732;
 
 // The recording of visit i entered, now and then twice.
-fn enter_night(rt: &impl Print, held: &mut Held, store: &mut Store, plan: Plan, i: usize)
-    requires { (i < visits) × Runs plan }
+fn enter_night(rt: &impl Print, held: &mut Held, plan: Plan, i: usize)
+    requires { i < visits }
 {
     let d = day_of(i);
     let night = night_of(i, plan.most);
     let length = length_of(plan, i);
     record(held, plan, i);
-    enter_line(rt, held, store, d, night, length);
+    enter_line(rt, held, d, night, length);
     if i % 13 == 5 {
-        enter_line(rt, held, store, d, night, length);
+        enter_line(rt, held, d, night, length);
     }
 }
 
-// The day of the visit that lies so far back, withdrawn.
-fn withdraw_night(rt: &impl Print, held: &mut Held, store: &mut Store, lag: usize, i: usize)
+// A visit: its night, the day of the visit that lies so far back withdrawn, and at some visits the answers or every refusal.
+fn visit(rt: &impl Print, held: &mut Held, plan: Plan, i: usize)
     requires { i < visits }
 {
-    if lag <= i {
-        withdraw_line(rt, held, store, day_of(i - lag));
+    enter_night(rt, held, plan, i);
+    if plan.lag <= i {
+        withdraw_line(rt, held, day_of(i - plan.lag));
     }
-}
-
-fn ask_some(rt: &impl Print, held: &mut Held, store: &Store, i: usize) {
     if i % 61 == 60 {
-        ask(rt, held, store);
+        ask(rt, held);
     }
-}
-
-fn refuse_some(rt: &impl Print, held: &mut Held, store: &mut Store, plan: Plan, i: usize)
-    requires { Runs plan }
-{
     if i == REFUSED_VISIT {
-        be_refused(rt, held, store, plan);
+        be_refused(rt, held, plan);
     }
 }
 
-fn visit(rt: &impl Print, held: &mut Held, store: &mut Store, plan: Plan, i: usize)
-    requires { (i < visits) × Runs plan }
-{
-    enter_night(rt, held, store, plan, i);
-    withdraw_night(rt, held, store, plan.lag, i);
-    ask_some(rt, held, store, i);
-    refuse_some(rt, held, store, plan, i);
-}
-
-fn all_visits(rt: &impl Print, held: &mut Held, store: &mut Store, plan: Plan)
-    requires { Runs plan }
-{
+fn all_visits(rt: &impl Print, held: &mut Held, plan: Plan) {
     for i in 0..VISITS {
-        visit(rt, held, store, plan, i);
+        visit(rt, held, plan, i);
     }
 }
 
 // The days of the last visits, withdrawn.
-fn last_withdrawals(rt: &impl Print, held: &mut Held, store: &mut Store, lag: usize)
+fn last_withdrawals(rt: &impl Print, held: &mut Held, lag: usize)
     requires { lag ≤ visits }
 {
     for i in VISITS - lag..VISITS {
-        withdraw_line(rt, held, store, day_of(i));
+        withdraw_line(rt, held, day_of(i));
     }
 }
 
 // The planned campaign on filled memory, its record begun.
-fn started(rt: &impl Print, plan: Plan, store: &mut Store) -> Held {
-    let order = plan.order;
-    let taps = plan.taps;
-    let capacity = plan.capacity;
-    fill_store(store);
-    let mut held = filled(blank(order, taps, capacity, AWAY_FROM_ZERO));
-    start_line(rt, &mut held, store, order, taps, capacity, STORE, PLACES);
+fn started(rt: &impl Print, plan: Plan) -> Held {
+    let opening = plan.opening;
+    let mut held = filled(blank(
+        opening.order,
+        opening.taps,
+        opening.capacity,
+        AWAY_FROM_ZERO,
+    ));
+    start_line(rt, &mut held, opening, STORE, PLACES);
     held
 }
 
 // The planned campaign, from its start to its last answer.
-pub fn campaign_lines(rt: &impl Print, plan: Plan, store: &mut Store)
-    requires { Runs plan }
-{
-    let mut held = started(rt, plan, store);
-    ask(rt, &mut held, store);
-    all_visits(rt, &mut held, store, plan);
-    last_withdrawals(rt, &mut held, store, plan.lag);
-    ask(rt, &mut held, store);
+pub fn campaign_lines(rt: &impl Print, plan: Plan) {
+    let mut held = started(rt, plan);
+    ask(rt, &mut held);
+    all_visits(rt, &mut held, plan);
+    last_withdrawals(rt, &mut held, plan.lag);
+    ask(rt, &mut held);
 }

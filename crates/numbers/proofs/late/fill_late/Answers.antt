@@ -13,9 +13,7 @@ pub loop-j-init : goal.loop-j-init
 loop-j-init c = written_none
 
 pub loop-j-preserved : goal.loop-j-preserved
-loop-j-preserved c =
-    let l = c.loop-j in
-    written_more l.invariant (omega arith) (read w32 _ c.out-1.given)
+loop-j-preserved c = written_more c.loop-j.invariant (omega arith) (read w32 _ (omega arith))
 
 pub returns : goal.returns
 unfolding late
