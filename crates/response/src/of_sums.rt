@@ -18,6 +18,6 @@ pub fn turn_sums(register: Register, y: &[i64], out: &mut [i64], room: &mut [i64
         × (tags.new ≡ cleared_tags (P register.order) tags.old) }
 {
     let period = register.period() as usize;
-    spread_wide(register, y, room, period);
+    spread_wide(register, y, room);
     finish(register, room, out, tags, period);
 }

@@ -65,7 +65,7 @@ pub fn measure(register: Register, y: &[i64], room: &mut [i64], tags: &mut [u16]
         × (tags.new ≡ cleared_tags (P register.order) tags.old) }
 {
     let period = register.period() as usize;
-    spread_wide(register, y, room, period);
+    spread_wide(register, y, room);
     transform_room(register.order, room, period + 1);
     let extremes = read_extremes(register, room, period);
     fill_front(room, period + 1, 0);
