@@ -13,7 +13,7 @@ use refusals::Refusal;
 pub fn check_day(c: Campaign, store: &[i32], sums: &[i64], d: u32) -> Result<(), Refusal>
     ensures { answer result ≡ first (day_checks c store.now sums.now d) }
 {
-    if !holds(c, store, sums) {
+    if !holds(&c, store, sums) {
         return Err(Refusal::Apart);
     }
     if outside(d, LAST_DAY) {

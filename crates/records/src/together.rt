@@ -9,8 +9,8 @@ use register::taps::accepts;
 use rounding::editions::is_edition;
 
 // Whether the record holds together with the store and the sums.
-pub fn holds(c: Campaign, store: &[i32], sums: &[i64]) -> bool
-    ensures { result ≡ together c store.now sums.now }
+pub fn holds(c: &Campaign, store: &[i32], sums: &[i64]) -> bool
+    ensures { result ≡ together c.now store.now sums.now }
 {
     if !accepts(c.order, c.taps) {
         return false;
@@ -29,5 +29,5 @@ pub fn holds(c: Campaign, store: &[i32], sums: &[i64]) -> bool
     if sums.len() < period {
         return false;
     }
-    store_holds(&c, period, store, sums)
+    store_holds(c, period, store, sums)
 }

@@ -18,7 +18,7 @@ use rounding::means::write_means;
 
 // The checks 15, 6 and 14 of a response into so much room.
 fn check_response(
-    c: Campaign,
+    c: &Campaign,
     store: &[i32],
     sums: &[i64],
     r: usize,
@@ -26,9 +26,9 @@ fn check_response(
     room: usize,
     tags: usize,
 ) -> Result<(), Refusal>
-    ensures { answer result ≡ first ((15, apart c store.now sums.now)
-        ∷ (6, answer_short (P c.order) r mean room tags)
-        ∷ (14, eqb (days_in c standing) 0) ∷ []) }
+    ensures { answer result ≡ first ((15, apart c.now store.now sums.now)
+        ∷ (6, answer_short (P c.now.order) r mean room tags)
+        ∷ (14, eqb (days_in c.now standing) 0) ∷ []) }
 {
     if !holds(c, store, sums) {
         return Err(Refusal::Apart);
@@ -55,7 +55,7 @@ pub fn response(
     ensures { (answer result, r.new, mean.new, room.new, tags.new)
         ≡ response_outcome c store.now sums.now r.old mean.old room.old tags.old }
 {
-    check_response(c, store, sums, r.len(), mean.len(), room.len(), tags.len())?;
+    check_response(&c, store, sums, r.len(), mean.len(), room.len(), tags.len())?;
     let register = Register::new(c.order, c.taps);
     let period = register.period() as usize;
     let divisor = divisor_of(&c);

@@ -9,8 +9,8 @@ use records::{Campaign, DEAD, OVERLOADED, STANDING, UNSEEN, WITHDRAWN};
 use refusals::Refusal;
 
 // The days in each of the five states.
-fn tally_of(c: Campaign) -> Tally
-    ensures { result ≡ tally c }
+fn tally_of(c: &Campaign) -> Tally
+    ensures { result ≡ tally c.now }
 {
     Tally {
         unseen: c.days_in(UNSEEN),
@@ -25,8 +25,8 @@ fn tally_of(c: Campaign) -> Tally
 pub fn counts(c: Campaign, store: &[i32], sums: &[i64]) -> Result<Tally, Refusal>
     ensures { numbered result ≡ counts_outcome c store.now sums.now }
 {
-    if !holds(c, store, sums) {
+    if !holds(&c, store, sums) {
         return Err(Refusal::Apart);
     }
-    Ok(tally_of(c))
+    Ok(tally_of(&c))
 }

@@ -32,14 +32,14 @@ fn levels_of(e: Extremes, d: u64) -> Levels
 
 // The checks 15 and 6 of a summary with so much room.
 fn check_summary(
-    c: Campaign,
+    c: &Campaign,
     store: &[i32],
     sums: &[i64],
     room: usize,
     tags: usize,
 ) -> Result<(), Refusal>
-    ensures { answer result ≡ first ((15, apart c store.now sums.now)
-        ∷ (6, work_short (P c.order) room tags) ∷ []) }
+    ensures { answer result ≡ first ((15, apart c.now store.now sums.now)
+        ∷ (6, work_short (P c.now.order) room tags) ∷ []) }
 {
     if !holds(c, store, sums) {
         return Err(Refusal::Apart);
@@ -61,7 +61,7 @@ pub fn summary(
     ensures { (result, room.new, tags.new)
         ≡ summary_outcome c store.now sums.now room.old tags.old }
 {
-    if let Err(refusal) = check_summary(c, store, sums, room.len(), tags.len()) {
+    if let Err(refusal) = check_summary(&c, store, sums, room.len(), tags.len()) {
         return Summary::Refused(refusal.number());
     }
     if c.days_in(STANDING) == 0 {

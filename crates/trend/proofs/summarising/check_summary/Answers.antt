@@ -10,10 +10,10 @@ use Rattle.trend.proofs.summarising.check_summary.Goals as goal
 use Rattle.trend.proofs.summarising.check_summary.Goals.{Else-not-holds}
 
 -- past the first test
-whole : (c : Else-not-holds) → let a = c.args in together a.c a.store.now a.sums.now ≡ true
+whole : (c : Else-not-holds) → let a = c.args in together a.c.now a.store.now a.sums.now ≡ true
 whole c = sym c.holds.ensures ∙ c.if-not-holds.false
 
-order-most : (c : Else-not-holds) → c.args.c.order ≤ 16
+order-most : (c : Else-not-holds) → c.args.c.now.order ≤ 16
 order-most c = ((holds-together _ _ _).0 (whole c)).filed.accepted.shaped.most
 
 pub full_period-requires : goal.full_period-requires
