@@ -10,8 +10,3 @@ predict_within-requires-clause-room t c =
     let to : c.args.register.order ≤ 12 = omega arith in
     let room : P c.args.register.order < 4096 = omega (arith, pow_mono to) in
     let small : 4096 ≤ 65536 = omega arith in (room, small)
-
-pub predict_within-requires-2-clause-room : goal.predict_within-requires-2-clause-room
-predict_within-requires-2-clause-room t c =
-    let room : P c.args.register.order < 65536 = omega (arith, pow_mono c.args.register.accepted.shaped.most) in
-    let small : 65536 ≤ 65536 = omega arith in (room, small)

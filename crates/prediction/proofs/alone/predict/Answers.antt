@@ -71,11 +71,6 @@ returns-then-some_out c =
       refl,
     )
 
-pub predict_alone-requires-clause-h_len : goal.predict_alone-requires-clause-h_len
-predict_alone-requires-clause-h_len c =
-    let p = passed (goal.at.predict_alone-requires-clause-h_len c).In_ok-period in
-    rw c.new.ensures.order (p.long, omega (arith, c.if-out-h.false, p.long))
-
 pub returns-in_err-predict_alone : goal.returns-in_err-predict_alone
 unfolding prediction_outcome
 returns-in_err-predict_alone c =

@@ -1,15 +1,12 @@
 -- `prediction::lent::predict_in_room` meets its contract: what is handed in decides 1 to 5, the lengths lent and the range 6 and 7, and the
 -- prediction the eighth. Assumes nothing.
-use borrow.Author.Tests.{ltb-false}
 use mathlib.Core.Path.{◌≡◌, refl, sym, ap, ◌∙◌}
 use mathlib.Core.Bool.{Bool, false}
 use mathlib.Core.List.{List}
 use Prim.Native.Nat.{ℕ, ◌+◌}
-use native.Mathlib.Omega.{arith}
-use lib.Dec.{ltb}
 use lib.IntN.{ℤ}
 use lib.ListN.{length}
-use Rattle.sums.proofs.First.{or-false, not_first, answers_first}
+use Rattle.sums.proofs.First.{not_first, answers_first}
 use Rattle.refusals.specs.Causes.{number}
 use Rattle.refusals.specs.declared.Answer.{Answer}
 use Rattle.refusals.proofs.Causes.{never_0, exits}
@@ -74,15 +71,6 @@ returns-then-some_out c =
           (sym c.some_out.ensures ∙ c.if-some_out.true)),
       refl,
     )
-
-pub predict_lent-requires-clause-h_len : goal.predict_lent-requires-clause-h_len
-predict_lent-requires-clause-h_len c =
-    let a = c.args in
-    let at = goal.at.predict_lent-requires-clause-h_len c in
-    let enough = or-false (ltb (length a.out.now) (P a.order)) (ltb (length a.room.now) (P a.order + 1)) (long at.Else-lent_short) in
-    let room = ltb-false (length a.room.now) (P a.order + 1) enough.1 in
-    let p = passed at.In_ok-period in
-    rw c.new.ensures.order (p.long, ltb-false (length a.out.now) (P a.order) enough.0, omega (arith, room))
 
 pub returns-in_err-predict_lent : goal.returns-in_err-predict_lent
 unfolding roomed_outcome

@@ -80,10 +80,5 @@ returns c =
       (passed r).whole,
     )
 
-pub turn-requires-clause-y_value : goal.turn-requires-clause-y_value
-turn-requires-clause-y_value c =
-    let g = passed (goal.at.turn-requires-clause-y_value c).After-room_short in
-    rw c.new.ensures.order (g.long, sym c.some_out.ensures ∙ c.if-some_out.false)
-
 pub new-requires : goal.new-requires
 new-requires c = (passed (goal.at.new-requires c).After-room_short).accepted
