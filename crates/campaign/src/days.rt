@@ -10,10 +10,10 @@ use records::{Campaign, LAST_DAY};
 use refusals::Refusal;
 
 // The checks 15 and 10.
-pub fn check_day(c: Campaign, store: &[i32], sums: &[i64], d: u32) -> Result<(), Refusal>
-    ensures { answer result ≡ first (day_checks c store.now sums.now d) }
+pub fn check_day(c: &Campaign, store: &[i32], sums: &[i64], d: u32) -> Result<(), Refusal>
+    ensures { answer result ≡ first (day_checks c.now store.now sums.now d) }
 {
-    if !holds(&c, store, sums) {
+    if !holds(c, store, sums) {
         return Err(Refusal::Apart);
     }
     if outside(d, LAST_DAY) {

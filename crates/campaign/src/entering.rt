@@ -60,7 +60,7 @@ pub fn file_shown(
 ) -> Entered
     ensures { (result, store.new, sums.new) ≡ file_outcome c store.old sums.old d night y.now (shown_to c night y.now shown) }
 {
-    if let Err(refusal) = check_day(c, store, sums, d) {
+    if let Err(refusal) = check_day(&c, store, sums, d) {
         return refused(c, d, refusal);
     }
     match hear(c.order, night, y) {

@@ -14,8 +14,8 @@ use refusals::Refusal;
 use register::shift::full_period;
 
 // The checks 15, 10 and 13.
-fn check_withdrawal(c: Campaign, store: &[i32], sums: &[i64], d: u32) -> Result<(), Refusal>
-    ensures { answer result ≡ first (withdraw_checks c store.now sums.now d) }
+fn check_withdrawal(c: &Campaign, store: &[i32], sums: &[i64], d: u32) -> Result<(), Refusal>
+    ensures { answer result ≡ first (withdraw_checks c.now store.now sums.now d) }
 {
     check_day(c, store, sums, d)?;
     if !c.day_stands(d) {
@@ -28,7 +28,7 @@ fn check_withdrawal(c: Campaign, store: &[i32], sums: &[i64], d: u32) -> Result<
 pub fn withdraw(c: Campaign, store: &mut [i32], sums: &mut [i64], d: u32) -> Withdrawn
     ensures { (withdrawn_as result, store.new, sums.new) ≡ withdraw_outcome c store.old sums.old d }
 {
-    if let Err(refusal) = check_withdrawal(c, store, sums, d) {
+    if let Err(refusal) = check_withdrawal(&c, store, sums, d) {
         return Withdrawn {
             answer: Err(refusal),
             campaign: c,
