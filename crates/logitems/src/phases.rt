@@ -78,7 +78,7 @@ pub fn first_phase() -> Phase
     Phase::Unbegun
 }
 
-// After a start, and after an edition, by the answer.
+// After a start, and after an edition, by the answer in the number that a line has.
 pub fn after_answer(begun: bool, answer: u32) -> Phase
     ensures { result ≡ after_answer begun answer }
 {

@@ -91,7 +91,8 @@ pub fn bad(mark: Bookmark, out: &mut [u8]) -> Turned
     }
 }
 
-// What stands at the place: an item, the end, something bad, or none where the bytes are too few to tell. The bytes are those at hand from it on.
+// What stands at the place: an item, the end, something bad, or none where the bytes are too few to tell. The bytes are those at hand from it on. The
+// memory is lent piece by piece, as `apply` takes it.
 pub fn take_turn(
     mark: Bookmark,
     bytes: &[u8],

@@ -29,6 +29,7 @@ fn prime(q: u32) -> bool
         return false;
     }
     let mut e = 2;
+    // The bound is on the square, which no range says.
     while e * e <= q {
         if q % e == 0 {
             return false;

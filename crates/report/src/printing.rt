@@ -30,6 +30,7 @@ fn fill_digits(n: u64, room: &mut [u8; DIGITS]) -> usize
 {
     let mut i = LAST_DIGIT;
     let mut rest = n;
+    // By what is left of the number, and by no range.
     while 10 <= rest {
         room[i] = b'0' + (rest % 10) as u8;
         rest /= 10;
@@ -105,7 +106,7 @@ impl Text {
         }
     }
 
-    // The number, and after 4 the period.
+    // The number, and after 4 the period: a line has the numbers alone.
     fn answer(&mut self, answer: Answer)
         requires { self.old.length + 42 ≤ 128 }
         ensures { Added (answer_text answer) self.old self.new × (self.new.length ≤ self.old.length + 42) }

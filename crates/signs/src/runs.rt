@@ -62,6 +62,7 @@ pub fn blocks_run(rt: &impl Print, player: Player, total: usize) {
     let mut next = player;
     let mut length = 1;
     let mut left = total;
+    // By how many signs are left, and by no range.
     while 0 < left {
         let n = length.min(left);
         next = block_of(rt, next, n);

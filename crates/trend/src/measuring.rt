@@ -21,7 +21,7 @@ pub fn level_of(z: i64, d: u64) -> f64
     z as f64 / d as f64
 }
 
-// The new number where its size is at least the old's.
+// The new number where its size is at least the old's. The library's `max` goes by the sign too.
 fn larger(old: i64, new: i64) -> i64
     ensures { result ≡ cond (leb (nat_abs old) (nat_abs new)) new old }
 {
