@@ -11,6 +11,7 @@ use borrow.Author.Tests.{eqb-false}
 use lib.Dec.{T, eqb, ltb, eqb→eq, ltb→lt}
 use lib.Arith.{lt-one}
 use lib.Pow.{pow_pos, suc_ones}
+use Rattle.sums.proofs.First.{T-both}
 use Rattle.register.specs.Register.{dot, step, window, Generator, Accepted}
 use Rattle.defaults.specs.Calls.{default_rows, takes}
 use Rattle.register.proofs.Dot.{dot-step, dot-zero}
@@ -82,18 +83,14 @@ module _ (N taps : ℕ) (fits : taps < 2 ^ N) where
                 (eq-or-lt_of_le a),
           )
 
-T_and : (a b : Bool) → T (a && b) → T a × T b
-T_and true b t = (tt, t)
-T_and false b t = absurd t
-
 pub certify : (N taps : ℕ) → T (certified N taps) → Generator N taps
 unfolding Ran window
 certify zero taps t = absurd t
 certify (suc n) taps t =
     let N = suc n in
-    let a = T_and (eqb (last N taps) (2 ^ N - 1)) _ t in
-    let b = T_and (ltb 0 N) _ a.1 in
-    let c = T_and (eqb (taps % 2) 1) _ b.1 in
+    let a = T-both (eqb (last N taps) (2 ^ N - 1)) _ t in
+    let b = T-both (ltb 0 N) _ a.1 in
+    let c = T-both (eqb (taps % 2) 1) _ b.1 in
     let fits = ltb→lt taps (2 ^ N) c.1 in
     let long : 0 < 2 ^ N - 1 = omega (arith, pow_pos n) in
     let r = sound N taps fits long (2 ^ N - 2) (next (weights N taps 1) (2 ^ N) (2 ^ N - 1)) 1 (next-step N taps fits (2 ^ N - 1)) (eqb→eq (last N taps) (2 ^ N - 1) a.0) in
@@ -117,7 +114,7 @@ all (suc k) = certified (2 + k) (takes default_rows (2 + k)) && all k
 each : (n k : ℕ) → T (all n) → k < n → Generator (2 + k) (takes default_rows (2 + k))
 each zero k t l = absurd (omega arith)
 each (suc n) k t l =
-    let two = T_and (certified (2 + n) (takes default_rows (2 + n))) (all n) t in
+    let two = T-both (certified (2 + n) (takes default_rows (2 + n))) (all n) t in
     ⊎_elim (λ (e : k ≡ n). subst (λ (m : ℕ). Generator (2 + m) (takes default_rows (2 + m))) (sym e) (certify (2 + n) _ two.0))
     (λ b. each n k two.1 b) (eq-or-lt_of_le (le_of_suc-le-suc l))
 

@@ -1,5 +1,6 @@
 -- The default taps of an order: document 01, "Sequence and register", "Refusal numbers" and "Order of checks". Assumes nothing.
-use Rattle.std.specs.Prelude.{List, [], ◌∷◌, Bool, false, cond, ◌||◌, ℕ, eqb, Result, Ok, Err}
+use Rattle.std.specs.Prelude.{List, [], ◌∷◌, cond, ℕ, Result, Ok, Err}
+use Rattle.sums.specs.Lists.{among}
 use Rattle.sums.specs.Refusals.{outcome}
 use Rattle.register.specs.Calls.{order_out}
 
@@ -18,10 +19,6 @@ default_rows =
     ∷ (14 ∷ [], 43)
     ∷ (16 ∷ [], 45)
     ∷ []
-
-abbrev pub among : ℕ → List ℕ → Bool
-among N [] = false
-among N (k ∷ ks) = eqb N k || among N ks
 
 abbrev pub takes : List (List ℕ × ℕ) → ℕ → ℕ
 takes [] N = 0
