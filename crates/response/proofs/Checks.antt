@@ -1,16 +1,15 @@
--- The answer so far decides an outcome, whatever is handed back: the first five checks, then 6, 7 and those that a call adds. Assumes nothing.
+-- The answer of the first five checks, and what a call knows once they are passed. Assumes nothing.
 use mathlib.Core.Path.{◌≡◌, sym, ap, ◌∙◌}
-use mathlib.Core.Bool.{Bool, true, false, cond}
+use mathlib.Core.Bool.{cond}
 use mathlib.Core.List.{List, [], ◌∷◌}
 use borrow.Author.Tests.{eqb-true, eq-eqb, ne_eqb, not-false}
 use Prim.Native.Nat.{ℕ}
 use lib.Dec.{eqb}
 use lib.IntN.{ℤ}
 use lib.ListN.{length}
-use Rattle.sums.specs.Lists.{at}
-use Rattle.sums.specs.Refusals.{first, outcome}
-use Rattle.sums.proofs.First.{refused_first, passed_first, refused_early, passed_early, passes, accepts}
-use Rattle.samples.specs.Samples.{length_off, some_out}
+use Rattle.sums.specs.Refusals.{first}
+use Rattle.sums.proofs.First.{refused_first, passed_first, passes, accepts}
+use Rattle.samples.specs.Samples.{length_off}
 use Rattle.std.specs.Prelude.{Ok}
 use Rattle.refusals.specs.Causes.{said}
 use Rattle.refusals.specs.declared.Answer.{Answer}
@@ -18,7 +17,7 @@ use Rattle.register.specs.Register.{P, period, Accepted}
 use Rattle.register.specs.Calls.{taps_checks, answer_of, taps_answer}
 use Rattle.register.proofs.HowShort.{period-told}
 use Rattle.register.proofs.Judged.{accepted_exactly, maximal_period}
-use Rattle.response.specs.Calls.{given_checks, sample_checks}
+use Rattle.response.specs.Calls.{given_checks}
 
 -- ---- 1 to 5, by the taps check's answer
 
@@ -61,31 +60,3 @@ given N taps y e =
     let g = given-passed N taps y z in
     let q = period-told N taps e in
     record { none = z; accepted = g.0; long = g.1; full = q ∙ (maximal_period N taps g.0.shaped.tapped).1 g.0.maximal; whole = q }
-
--- ---- 6, 7 and what comes after them, by the answer r so far
-
-module _ {A : Type 0} (kept : ℕ → A) (made : A) (N taps : ℕ) (y : List ℤ) (short : Bool) (more : List (ℕ × Bool)) {r : ℕ} (e : r ≡ first (given_checks N taps y)) where
-  rest : List (ℕ × Bool)
-  rest = (6, short) ∷ (7, some_out (length y) (at y)) ∷ more
-
-  pub refused : (r ≡ 0 → ⊥) → outcome (sample_checks N taps y short more) kept made ≡ kept r
-  unfolding rest
-  refused n = refused_early kept made (given_checks N taps y) rest r e n
-
-  module _ (z : r ≡ 0) where
-    passed : outcome (sample_checks N taps y short more) kept made ≡ outcome rest kept made
-    unfolding rest
-    passed = passed_early kept made (given_checks N taps y) rest r tt e z
-
-    pub six : short ≡ true → outcome (sample_checks N taps y short more) kept made ≡ kept 6
-    unfolding rest
-    six s = passed ∙ simp s
-
-    module _ (s : short ≡ false) where
-      pub seven : some_out (length y) (at y) ≡ true → outcome (sample_checks N taps y short more) kept made ≡ kept 7
-      unfolding rest
-      seven o = passed ∙ simp (s, o)
-
-      pub left : some_out (length y) (at y) ≡ false → outcome (sample_checks N taps y short more) kept made ≡ outcome more kept made
-      unfolding rest
-      left o = passed ∙ simp (s, o)

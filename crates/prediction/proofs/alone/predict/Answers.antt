@@ -17,7 +17,9 @@ use Rattle.register.specs.Register.{P}
 use Rattle.register.proofs.HowShort.{period-told}
 use Rattle.register.proofs.Answered.{silent}
 use Rattle.prediction.specs.Calls.{foretold, eighth, prediction_outcome}
-use Rattle.response.proofs.Checks.{Given, given, refused, six, seven, left}
+use Rattle.samples.proofs.Checks.{refused, six, seven, left}
+use Rattle.response.specs.Calls.{given_checks}
+use Rattle.response.proofs.Checks.{Given, given}
 use Rattle.prediction.proofs.alone.predict.Goals as goal
 use Rattle.prediction.proofs.alone.predict.Goals.{In_ok-period, Else-out-h, Start}
 
@@ -48,7 +50,7 @@ returns-in_err-period c =
     let d = c.in_err-period.field-0.0 in
     let s = (goal.at.returns-in_err-period c).Start in
     rw (exits c.from_residual.result d c.from_residual.ensures.1) (
-      sym (refused (kept s) (made s) a.order a.taps a.h.now (short s) (more s) (ap (λ (x : Answer). x.number) c.in_err-period.ensures) (never_0 d)),
+      sym (refused (kept s) (made s) (given_checks a.order a.taps a.h.now) a.h.now (short s) (more s) (ap (λ (x : Answer). x.number) c.in_err-period.ensures) (never_0 d)),
       period-told a.order a.taps c.in_err-period.ensures,
     )
 
@@ -58,7 +60,7 @@ returns-then-out-h c =
     let a = c.args in
     let s = (goal.at.returns-then-out-h c).Start in
     let p = passed (goal.at.returns-then-out-h c).In_ok-period in
-    (sym (six (kept s) (made s) a.order a.taps a.h.now (short s) (more s) (sym p.none) refl (lt-ltb (length a.out.now) (P a.order) (omega (arith, c.if-out-h.true, p.long)))), refl)
+    (sym (six (kept s) (made s) (given_checks a.order a.taps a.h.now) a.h.now (short s) (more s) (sym p.none) tt refl (lt-ltb (length a.out.now) (P a.order) (omega (arith, c.if-out-h.true, p.long)))), refl)
 
 pub returns-then-some_out : goal.returns-then-some_out
 unfolding prediction_outcome
@@ -66,7 +68,7 @@ returns-then-some_out c =
     let a = c.args in
     let s = (goal.at.returns-then-some_out c).Start in
     let p = passed (goal.at.returns-then-some_out c).In_ok-period in (
-      sym (seven (kept s) (made s) a.order a.taps a.h.now (short s) (more s) (sym p.none) refl (long (goal.at.returns-then-some_out c).Else-out-h)
+      sym (seven (kept s) (made s) (given_checks a.order a.taps a.h.now) a.h.now (short s) (more s) (sym p.none) tt refl (long (goal.at.returns-then-some_out c).Else-out-h)
           (sym c.some_out.ensures ∙ c.if-some_out.true)),
       refl,
     )
@@ -82,7 +84,7 @@ returns-in_err-predict_alone c =
     let e = rw (c.new.ensures.order, c.new.ensures.taps) at c.in_err-predict_alone.ensures in
     let n : number d ≡ _ = ap (λ (o : ℕ × List ℤ). o.0) e ∙ answers_first (more s) (λ (o : ℕ × List ℤ). o.0) (kept s) (made s) (λ n. refl) refl in
     rw (exits c.from_residual-in_err-predict_alone.result d c.from_residual-in_err-predict_alone.ensures.1) (
-      e ∙ sym (left (kept s) (made s) a.order a.taps a.h.now (short s) (more s) (sym p.none) refl (long at.Else-out-h) (sym c.some_out.ensures ∙ c.if-some_out.false)),
+      e ∙ sym (left (kept s) (made s) (given_checks a.order a.taps a.h.now) a.h.now (short s) (more s) (sym p.none) tt refl (long at.Else-out-h) (sym c.some_out.ensures ∙ c.if-some_out.false)),
       silent a.order a.taps d (λ z. not_first 4 (more s) tt (sym n ∙ z)),
     )
 
@@ -96,6 +98,6 @@ returns c =
     let s = (goal.at.returns c).Start in
     let p = passed (goal.at.returns c).In_ok-period in (
       rw (c.new.ensures.order, c.new.ensures.taps) at c.in_ok-predict_alone.ensures
-          ∙ sym (left (kept s) (made s) a.order a.taps a.h.now (short s) (more s) (sym p.none) refl (long (goal.at.returns c).Else-out-h) (sym c.some_out.ensures ∙ c.if-some_out.false)),
+          ∙ sym (left (kept s) (made s) (given_checks a.order a.taps a.h.now) a.h.now (short s) (more s) (sym p.none) tt refl (long (goal.at.returns c).Else-out-h) (sym c.some_out.ensures ∙ c.if-some_out.false)),
       p.whole,
     )

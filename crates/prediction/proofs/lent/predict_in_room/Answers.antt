@@ -15,7 +15,9 @@ use Rattle.register.proofs.HowShort.{period-told}
 use Rattle.register.proofs.Answered.{silent}
 use Rattle.samples.specs.Samples.{cleared_wide, lent_short}
 use Rattle.prediction.specs.Calls.{foretold, eighth, roomed_outcome}
-use Rattle.response.proofs.Checks.{Given, given, refused, six, seven, left}
+use Rattle.samples.proofs.Checks.{refused, six, seven, left}
+use Rattle.response.specs.Calls.{given_checks}
+use Rattle.response.proofs.Checks.{Given, given}
 use Rattle.prediction.proofs.lent.predict_in_room.Goals as goal
 use Rattle.prediction.proofs.lent.predict_in_room.Goals.{In_ok-period, After-lent_short, Else-lent_short, Start}
 
@@ -49,7 +51,7 @@ returns-in_err-period c =
     let d = c.in_err-period.field-0.0 in
     let s = (goal.at.returns-in_err-period c).Start in
     rw (exits c.from_residual.result d c.from_residual.ensures.1) (
-      sym (refused (kept s) (made s) a.order a.taps a.h.now (short s) (more s) (ap (λ (x : Answer). x.number) c.in_err-period.ensures) (never_0 d)),
+      sym (refused (kept s) (made s) (given_checks a.order a.taps a.h.now) a.h.now (short s) (more s) (ap (λ (x : Answer). x.number) c.in_err-period.ensures) (never_0 d)),
       period-told a.order a.taps c.in_err-period.ensures,
     )
 
@@ -59,7 +61,7 @@ returns-then-lent_short c =
     let a = c.args in
     let at = goal.at.returns-then-lent_short c in
     let s = at.Start in
-    (sym (six (kept s) (made s) a.order a.taps a.h.now (short s) (more s) (sym (passed at.In_ok-period).none) refl (sym (tested at.After-lent_short) ∙ c.if-lent_short.true)), refl)
+    (sym (six (kept s) (made s) (given_checks a.order a.taps a.h.now) a.h.now (short s) (more s) (sym (passed at.In_ok-period).none) tt refl (sym (tested at.After-lent_short) ∙ c.if-lent_short.true)), refl)
 
 pub returns-then-some_out : goal.returns-then-some_out
 unfolding roomed_outcome
@@ -67,7 +69,7 @@ returns-then-some_out c =
     let a = c.args in
     let at = goal.at.returns-then-some_out c in
     let s = at.Start in (
-      sym (seven (kept s) (made s) a.order a.taps a.h.now (short s) (more s) (sym (passed at.In_ok-period).none) refl (long at.Else-lent_short)
+      sym (seven (kept s) (made s) (given_checks a.order a.taps a.h.now) a.h.now (short s) (more s) (sym (passed at.In_ok-period).none) tt refl (long at.Else-lent_short)
           (sym c.some_out.ensures ∙ c.if-some_out.true)),
       refl,
     )
@@ -82,7 +84,7 @@ returns-in_err-predict_lent c =
     let e = rw (c.new.ensures.order, c.new.ensures.taps) at c.in_err-predict_lent.ensures in
     let n : number d ≡ _ = ap (λ (o : ℕ × List ℤ × List ℤ). o.0) e ∙ answers_first (more s) (λ (o : ℕ × List ℤ × List ℤ). o.0) (kept s) (made s) (λ n. refl) refl in
     rw (exits c.from_residual-in_err-predict_lent.result d c.from_residual-in_err-predict_lent.ensures.1) (
-      e ∙ sym (left (kept s) (made s) a.order a.taps a.h.now (short s) (more s) (sym (passed at.In_ok-period).none) refl (long at.Else-lent_short) (sym c.some_out.ensures ∙ c.if-some_out.false)),
+      e ∙ sym (left (kept s) (made s) (given_checks a.order a.taps a.h.now) a.h.now (short s) (more s) (sym (passed at.In_ok-period).none) tt refl (long at.Else-lent_short) (sym c.some_out.ensures ∙ c.if-some_out.false)),
       silent a.order a.taps d (λ z. not_first 4 (more s) tt (sym n ∙ z)),
     )
 
@@ -97,6 +99,6 @@ returns c =
     let s = at.Start in
     let p = passed at.In_ok-period in (
       rw (c.new.ensures.order, c.new.ensures.taps) at c.in_ok-predict_lent.ensures
-          ∙ sym (left (kept s) (made s) a.order a.taps a.h.now (short s) (more s) (sym p.none) refl (long at.Else-lent_short) (sym c.some_out.ensures ∙ c.if-some_out.false)),
+          ∙ sym (left (kept s) (made s) (given_checks a.order a.taps a.h.now) a.h.now (short s) (more s) (sym p.none) tt refl (long at.Else-lent_short) (sym c.some_out.ensures ∙ c.if-some_out.false)),
       p.whole,
     )

@@ -12,8 +12,9 @@ use Rattle.refusals.proofs.Causes.{never_0, exits}
 use Rattle.register.specs.Register.{P, wave}
 use Rattle.register.proofs.HowShort.{period-told}
 use Rattle.response.specs.Response.{response}
-use Rattle.response.specs.Calls.{recording_outcome}
-use Rattle.response.proofs.Checks.{Given, given, refused, six, seven, left}
+use Rattle.response.specs.Calls.{given_checks, recording_outcome}
+use Rattle.samples.proofs.Checks.{refused, six, seven, left}
+use Rattle.response.proofs.Checks.{Given, given}
 use Rattle.response.proofs.recording.one_recording.Goals as goal
 use Rattle.response.proofs.recording.one_recording.Goals.{After-room_short, Start}
 
@@ -48,7 +49,7 @@ returns-in_err-period c =
     let d = c.in_err-period.field-0.0 in
     let s = (goal.at.returns-in_err-period c).Start in
     rw (exits c.from_residual.result d c.from_residual.ensures.1) (
-      sym (refused (kept s) (made s) a.order a.taps a.y.now (short s) [] (ap (λ (x : Answer). x.number) c.in_err-period.ensures) (never_0 d)),
+      sym (refused (kept s) (made s) (given_checks a.order a.taps a.y.now) a.y.now (short s) [] (ap (λ (x : Answer). x.number) c.in_err-period.ensures) (never_0 d)),
       period-told a.order a.taps c.in_err-period.ensures,
     )
 
@@ -57,14 +58,14 @@ unfolding recording_outcome
 returns-then-room_short c =
     let s = (goal.at.returns-then-room_short c).Start in
     let r = (goal.at.returns-then-room_short c).After-room_short in
-    (sym (six (kept s) (made s) c.args.order c.args.taps c.args.y.now (short s) [] (sym (passed r).none) refl (sym (tested r) ∙ c.if-room_short.true)), refl)
+    (sym (six (kept s) (made s) (given_checks c.args.order c.args.taps c.args.y.now) c.args.y.now (short s) [] (sym (passed r).none) tt refl (sym (tested r) ∙ c.if-room_short.true)), refl)
 
 pub returns-then-some_out : goal.returns-then-some_out
 unfolding recording_outcome
 returns-then-some_out c =
     let s = (goal.at.returns-then-some_out c).Start in
     let r = (goal.at.returns-then-some_out c).After-room_short in (
-      sym (seven (kept s) (made s) c.args.order c.args.taps c.args.y.now (short s) [] (sym (passed r).none) refl
+      sym (seven (kept s) (made s) (given_checks c.args.order c.args.taps c.args.y.now) c.args.y.now (short s) [] (sym (passed r).none) tt refl
           (sym (tested r) ∙ c.if-room_short.false) (sym c.some_out.ensures ∙ c.if-some_out.true)),
       refl,
     )
@@ -75,7 +76,7 @@ returns c =
     let s = (goal.at.returns c).Start in
     let r = (goal.at.returns c).After-room_short in (
       rw (c.turn.ensures.0, c.turn.ensures.1, c.turn.ensures.2, c.new.ensures.order, c.new.ensures.taps)
-          (sym (left (kept s) (made s) c.args.order c.args.taps c.args.y.now (short s) [] (sym (passed r).none) refl
+          (sym (left (kept s) (made s) (given_checks c.args.order c.args.taps c.args.y.now) c.args.y.now (short s) [] (sym (passed r).none) tt refl
           (sym (tested r) ∙ c.if-room_short.false) (sym c.some_out.ensures ∙ c.if-some_out.false))),
       (passed r).whole,
     )
