@@ -2,8 +2,8 @@
 // a line that is cut shows in the comparison of what was printed.
 use std::fmt::Display;
 
-pub fn word(rt: &impl Print, text: &str) {
-    let _ = print!(rt; "{text}");
+pub fn word(rt: &impl Print, text: &[u8]) {
+    let _ = rt.write_all(text);
 }
 
 pub fn number<T: Display + Copy>(rt: &impl Print, n: T) {

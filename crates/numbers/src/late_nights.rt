@@ -25,7 +25,7 @@ fn refused_words(rt: &impl Print, n: u32) {
 
 fn summary_words(rt: &impl Print, s: Summary) {
     match s {
-        Summary::Nothing => word(rt, " nothing"),
+        Summary::Nothing => word(rt, b" nothing"),
         Summary::Measured(l) => {
             let _ = print!(rt; " {} {} {}", bits(l.highest), bits(l.lowest), bits(l.peak));
         }
@@ -37,7 +37,7 @@ fn summary_words(rt: &impl Print, s: Summary) {
 fn kept_words(rt: &impl Print, c: Campaign, store: &[i32], sums: &[i64]) {
     let mut room = [0i64; PLACES + 1];
     let mut tags = [0u16; PLACES];
-    word(rt, " kept");
+    word(rt, b" kept");
     summary_words(rt, summary(c, store, sums, &mut room, &mut tags));
 }
 
@@ -47,7 +47,7 @@ fn verdict_words(rt: &impl Print, verdict: Verdict, c: Campaign, store: &[i32], 
         Verdict::Overloaded(p) => {
             let _ = print!(rt; " overload {p}");
         }
-        Verdict::Dead => word(rt, " dead"),
+        Verdict::Dead => word(rt, b" dead"),
         Verdict::Refused(n) => refused_words(rt, n),
     }
 }

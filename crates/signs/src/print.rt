@@ -4,7 +4,7 @@ use refusals::Refusal;
 
 // - for -1, + for +1.
 pub fn mark(rt: &impl Print, sign: i32) {
-    word(rt, if sign < 0 { "-" } else { "+" });
+    word(rt, if sign < 0 { b"-" } else { b"+" });
 }
 
 pub fn marks(rt: &impl Print, signs: &[i8]) {
