@@ -2,12 +2,14 @@
 ghost use Rattle.std.specs.Prelude.{◌≡◌, ℕ, ◌+◌, ◌^◌, ◌≤◌, ◌<◌, nat_abs, ◌+ℤ◌, length};
 ghost use Rattle.sums.specs.Lists.{at, table, put};
 
-// Samples in the place of a row's first.
+// Samples in the place of a row's first. The library's `copy_from_slice` would have the C library need `memmove` from outside.
 pub fn copy_in(part: &[i32], row: &mut [i32])
     requires { length part.now ≤ length row.old }
     ensures { row.new ≡ put (table (length part.now) (at part.now)) row.old }
 {
-    row[..part.len()].copy_from_slice(part);
+    for j in 0..part.len() {
+        row[j] = part[j];
+    }
 }
 
 // Samples added to a row's first.
