@@ -69,3 +69,13 @@ impl Kind {
         }
     }
 }
+
+// How many bytes follow a byte, whatever it is: none after one that stands for no kind.
+pub fn body_length(kind: u8) -> usize
+    ensures { result ≡ body_length kind }
+{
+    match Kind::try_from(kind) {
+        Ok(kind) => kind.body_length(),
+        Err(_) => NO_BODY,
+    }
+}

@@ -57,6 +57,16 @@ impl Kind {
     }
 }
 
+// The same of a byte, whatever it is: one that stands for no kind may stand nowhere.
+pub fn may_stand(phase: Phase, period: usize, kind: u8) -> bool
+    ensures { result ≡ may_stand phase period kind }
+{
+    match Kind::try_from(kind) {
+        Ok(kind) => kind.may_stand(phase, period),
+        Err(_) => false,
+    }
+}
+
 // The input may end outside a day, once begun.
 pub fn may_end(phase: Phase) -> bool
     ensures { result ≡ may_end phase }
