@@ -1,7 +1,7 @@
 // One turn after another, until the program stops: each turn's text is written, and where too few bytes are at hand more are read.
 // No contract can say what is read or written, so a function that reads or writes decides nothing: what its answer leads to is a function of
 // that answer.
-ghost use Rattle.std.specs.Prelude.{◌≡◌, ◌+◌, ◌-◌, ◌^◌, ◌≤◌, ◌<◌, length, is_some, unwrap_or};
+ghost use Rattle.std.specs.Prelude.{◌≡◌, ◌+◌, ◌-◌, ◌^◌, ◌≤◌, ◌<◌, length, Some, None, is_some, unwrap_or, MatchResult};
 ghost use Rattle.logeffects.specs.Book.{memory};
 ghost use Rattle.logprogram.specs.Program.{first_memory};
 ghost use Rattle.meterlog.specs.Buffer.{midway, Inside, stopping, after_write, after_read, Refilled, Stepped, Ended};
@@ -10,6 +10,7 @@ use crate::{Failed, Progress};
 use logitems::feeding::to_front;
 use logprogram::Turned;
 use logprogram::turning::{bad, first_mark, stop, take_turn};
+use std::io;
 use std::io::Read;
 
 // 2^60: a proved loop has to end, and nothing says that the input does.
@@ -62,10 +63,17 @@ fn received(p: Progress, came: Option<usize>) -> Progress
     }
 }
 
+// What a read answered: how many bytes came, and none where it failed.
+fn answered(answer: io::Result<usize>) -> Option<usize>
+    ensures { MatchResult answer (λ n. result ≡ Some n) (λ e. result ≡ None) }
+{
+    answer.ok()
+}
+
 fn read_once(rt: &impl Input, bytes: &mut [u8]) -> Option<usize>
     ensures { unwrap_or result 0 ≤ length bytes.new }
 {
-    rt.reader().read(bytes).ok()
+    answered(rt.reader().read(bytes))
 }
 
 // One read: the bytes at hand go to the front of the buffer, and more behind them, where there is room.
