@@ -8,3 +8,10 @@ pub mod means;
 pub const AWAY_FROM_ZERO: u32 = 1;
 
 pub const TO_EVEN: u32 = 2;
+
+// A number as 2^times times the rest.
+#[derive(Clone, Copy)]
+pub struct Halved {
+    pub times: u32,
+    pub rest: u64,
+}

@@ -6,8 +6,8 @@ ghost use Rattle.samples.specs.Samples.{sample_out};
 ghost use Rattle.rounding.specs.Rounding.{to_even, nearest, settled, nearest_in, rounded};
 ghost use Rattle.rounding.specs.Halving.{Split, Exact, reciprocal as reciprocal_of, with_sign, raised_by};
 
-use crate::TO_EVEN;
 use crate::editions::settle;
+use crate::{Halved, TO_EVEN};
 
 // How often a divisor is halved at most, and the most that may be left of it for a reciprocal to be exact enough: of a size, and of a quotient that is raised.
 const MOST_HALVINGS: u32 = 26;
@@ -40,11 +40,14 @@ fn near(edition: u32, a: u64, d: u64) -> u64
 }
 
 // How often 2 goes into a number, up to a limit, and what is left of it.
-fn halve(d: u64) -> (u32, u64)
-    ensures { (result.1 * 2 ^ result.0 ≡ d) × (result.0 ≤ 26) }
+fn halve(d: u64) -> Halved
+    ensures { (result.rest * 2 ^ result.times ≡ d) × (result.times ≤ 26) }
 {
     let times = d.trailing_zeros().min(MOST_HALVINGS);
-    (times, d >> times)
+    Halved {
+        times,
+        rest: d >> times,
+    }
 }
 
 // x / 2·d, its rest left out, by a shift and a product. No rest is a half that went up, and goes where the edition has it.
@@ -138,7 +141,7 @@ pub fn write_means(edition: u32, r: &[i64], out: &mut [i32], period: usize, divi
     requires by_index { (k : ℕ) → k < period → sample_out (rounded edition (at r.now k) divisor) ≡ false }
     ensures { out.new ≡ put (table period (λ k. rounded edition (at r.now k) divisor)) out.old }
 {
-    let (times, rest) = halve(divisor);
+    let Halved { times, rest } = halve(divisor);
     if MOST_LEFT < rest {
         write_each(r, out, period, |z| mean_by_division(edition, z, divisor));
         return;

@@ -23,7 +23,7 @@ pub const TAGS: usize = 1100;
 pub const RECORDING: usize = 2600;
 
 // A campaign's record with all else that its calls are lent: the store, the sums, the recording at hand, and the rooms for an answer.
-#[derive(Drop)]
+#[derive(Clone, Copy)]
 pub struct Held {
     pub campaign: Campaign,
     pub store: [i32; STORE],
