@@ -1,5 +1,5 @@
 // The answer of start.
-ghost use Rattle.std.specs.Prelude.{◌≡◌, ◌||◌, [], ◌∷◌, ◌++◌, ◌*◌, ◌≤◌, ltb};
+ghost use Rattle.std.specs.Prelude.{◌≡◌, ◌||◌, [], ◌∷◌, ◌++◌, ◌*◌, ◌≤◌, ltb, Err};
 ghost use Rattle.sums.specs.Refusals.{first};
 ghost use Rattle.refusals.specs.Causes.{said};
 ghost use Rattle.register.specs.Register.{P};
@@ -47,6 +47,16 @@ pub fn check_start(
     Ok(period)
 }
 
+// The record as it was, with what refuses the start.
+fn refused(c: Campaign, refusal: Refusal) -> Started
+    ensures { result ≡ record { answer = Err refusal; campaign = c } }
+{
+    Started {
+        answer: Err(refusal),
+        campaign: c,
+    }
+}
+
 // Every day unseen, every slot free, zeros in the store and the sums, refusing 1, 2, 3, 4, 9, 24, 6.
 pub fn start(
     c: Campaign,
@@ -59,17 +69,14 @@ pub fn start(
 ) -> Started
     ensures { (started_as result, store.new, sums.new) ≡ start_outcome c order taps capacity edition store.old sums.old }
 {
-    let answer = check_start(order, taps, capacity, edition, store.len(), sums.len());
-    let Ok(period) = answer else {
-        return Started {
-            answer,
-            campaign: c,
-        };
+    let period = match check_start(order, taps, capacity, edition, store.len(), sums.len()) {
+        Err(refusal) => return refused(c, refusal),
+        Ok(period) => period,
     };
     fill_front(store, capacity as usize * period as usize, 0);
     fill_front(sums, period as usize, 0);
     Started {
-        answer,
+        answer: Ok(period),
         campaign: blank(order, taps, capacity, edition),
     }
 }

@@ -92,8 +92,8 @@ fn fill_signs(player: Player, signs: &mut [i8]) -> Player
     ensures signs_after { signs.new ≡ table (length signs.old) (sign_after player) }
 {
     let mut next = player;
-    for sign in signs {
-        *sign = next_sign(next) as i8;
+    for k in 0..signs.len() {
+        signs[k] = next_sign(next) as i8;
         next = next_player(next);
     }
     next

@@ -19,10 +19,10 @@ pub fn find(slots: &[u16], capacity: usize, day: u16) -> usize
     requires capacity_bound { capacity ≤ 64 }
     ensures { result ≡ seek (λ s. eqb (get_or slots.now s 0) day) capacity 0 }
 {
-    slots[..capacity]
-        .iter()
-        .position(|&held| held == day)
-        .unwrap_or(capacity)
+    if let Some(s) = slots[..capacity].iter().position(|&held| held == day) {
+        return s;
+    }
+    capacity
 }
 
 // Whether a slot with this day is free and has no periods, or has 1 to 16.

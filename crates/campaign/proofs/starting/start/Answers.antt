@@ -43,10 +43,10 @@ module _ (c : Campaign) (N taps C E : ℕ) (store sums : List ℤ) where
       rw (w ∙ ap (answer_of N taps) z, q, s ∙ ap (λ n. cleared_wide (C * n) store) full, t ∙ ap (λ n. cleared_wide n sums) full)
       (sym (accepted_with _ _ (start_checks N taps C E store sums) asked refl z))
 
-pub returns-in_default : goal.returns-in_default
-returns-in_default c =
+pub returns-in-Err : goal.returns-in-Err
+returns-in-Err c =
     let a = c.args in
-    rw c.in_default.is (refused a.c a.order a.taps a.capacity a.edition a.store.now a.sums.now c.in_default.field-0 c.in_default.ensures)
+    rw c.refused.ensures (refused a.c a.order a.taps a.capacity a.edition a.store.now a.sums.now c.in-Err.refusal c.in-Err.ensures)
 
 pub returns : goal.returns
 returns c =

@@ -11,35 +11,35 @@ use Rattle.player.proofs.clock.fill_signs.Goals as goal
 use Rattle.player.proofs.clock.fill_signs.Goals.{After-next_sign}
 
 -- the sign as it is handed over, and in a byte
-sign-is : (c : After-next_sign) → to_z w32 (of_z w32 c.next_sign.result) ≡ sign (c.loop-sign.next.window % 2)
+sign-is : (c : After-next_sign) → to_z w32 (of_z w32 c.next_sign.result) ≡ sign (c.loop-k.next.window % 2)
 sign-is c = read w32 _ c.next_sign.type_inv ∙ c.next_sign.ensures
 
 small : (n : ℕ) → SFits w8 (sign n)
 small n = small_fits w8 (sign n) (omega (arith, nat_abs-sign n))
 
-pub loop-sign-init : goal.loop-sign-init
+pub loop-k-init : goal.loop-k-init
 unfolding after
-loop-sign-init c = (refl, written_none)
+loop-k-init c = (refl, written_none)
 
-pub overflow_cast-sign : goal.overflow_cast-sign
-overflow_cast-sign c = rw (sign-is c) (small (c.loop-sign.next.window % 2))
+pub overflow_cast-signs : goal.overflow_cast-signs
+overflow_cast-signs c = rw (sign-is c) (small (c.loop-k.next.window % 2))
 
 pub next_player-next-requires : goal.next_player-next-requires
 next_player-next-requires c =
     let a = c.args.player in
-    let l = c.loop-sign in
-    rw l.invariant.0 (passes_step (after a l.sign-index) (after_playable a (playable a c.requires) l.sign-index))
+    let l = c.loop-k in
+    rw l.invariant.0 (passes_step (after a l.k) (after_playable a (playable a c.requires) l.k))
 
-pub loop-sign-preserved : goal.loop-sign-preserved
+pub loop-k-preserved : goal.loop-k-preserved
 unfolding after
-loop-sign-preserved c =
-    let l = c.loop-sign in (
-      c.next_player-next.ensures ∙ ap advanced l.invariant.0 ∙ ap (after c.args.player) (sym (add-one l.sign-index)),
-      written_more l.invariant.1 (omega arith) (rw (sign-is (goal.at.loop-sign-preserved c).After-next_sign, to_z-of_z (small (l.next.window % 2)), l.invariant.0)),
+loop-k-preserved c =
+    let l = c.loop-k in (
+      c.next_player-next.ensures ∙ ap advanced l.invariant.0 ∙ ap (after c.args.player) (sym (add-one l.k)),
+      written_more l.invariant.1 (omega arith) (rw (sign-is (goal.at.loop-k-preserved c).After-next_sign, to_z-of_z (small (l.next.window % 2)), l.invariant.0)),
     )
 
 pub returns : goal.returns
 returns c =
-    let l = c.loop-sign in
-    let e : l.sign-index ≡ length c.args.signs.now = omega arith in
+    let l = c.loop-k in
+    let e : l.k ≡ length c.args.signs.now = omega arith in
     record { value = l.invariant.0 ∙ ap (after c.args.player) e; signs_after = written_all l.invariant.1 e }

@@ -5,5 +5,5 @@ use Rattle.sums.proofs.Tables.{Written}
 use Rattle.player.specs.Calls.{after, sign_after}
 use Rattle.player.proofs.clock.fill_signs.Given as goal
 
-abbrev pub invariant-loop-sign : goal.invariant-loop-sign
-invariant-loop-sign l = (l.next ≡ after l.initial.next l.sign-index) × Written l.sign-index (sign_after l.initial.next) l.initial.sign-items l.sign-items
+abbrev pub invariant-loop-k : goal.invariant-loop-k
+invariant-loop-k l = (l.next ≡ after l.initial.next l.k) × Written l.k (sign_after l.initial.next) l.initial.signs l.signs
