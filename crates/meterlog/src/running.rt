@@ -63,7 +63,7 @@ fn received(p: Progress, came: Option<usize>) -> Progress
     }
 }
 
-// What a read answered: how many bytes came, and none where it failed.
+// What a read answered: `Some` of how many bytes came, or `None` where it failed.
 fn answered(answer: io::Result<usize>) -> Option<usize>
     ensures { MatchResult answer (λ n. result ≡ Some n) (λ e. result ≡ None) }
 {
